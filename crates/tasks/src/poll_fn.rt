@@ -1,0 +1,60 @@
+ghost use Prim.Native.Nat.{ℕ};
+ghost use mathlib.Core.Bool.{Bool};
+ghost use mathlib.Core.List.{List};
+ghost use mathlib.Core.Path.{_≡_};
+ghost use Rattle.tasks.specs.declared.poll.Poll.{Poll};
+use crate::future::Future;
+use crate::poll::Poll;
+use crate::stream::Stream;
+
+// How a task of type T is polled. A group of tasks is polled by one text, whatever the tasks are; this
+// parameter says through which interface.
+pub trait PollFn<T> {
+    type Answer;
+
+    ghost wakes: { T → List ℕ → Bool };
+
+    ghost answers: { T → List ℕ → Poll Self·Answer };
+
+    ghost after: { T → List ℕ → T };
+
+    fn poll(task: &mut T, post: &[u64]) -> (bool, Poll<Self::Answer>)
+        ensures pair { λ r. ⌜ r ≡ (wakes (now (task .entry)) (now (post .entry)), answers (now (task .entry)) (now (post .entry))) ⌝ }
+        ensures left { λ _. ⌜ now (task .exit) ≡ after (now (task .entry)) (now (post .entry)) ⌝ };
+}
+
+// A future is polled through Future.
+#[derive(Clone, Copy)]
+pub struct ByFuture;
+
+pub impl<F: Future> PollFn<F> for ByFuture as FuturePoll {
+    type Answer = F::Output;
+
+    ghost wakes = { F·Future .wakes };
+
+    ghost answers = { F·Future .answers };
+
+    ghost after = { F·Future .after };
+
+    fn poll(task: &mut F, post: &[u64]) -> (bool, Poll<F::Output>) {
+        task.poll(post)
+    }
+}
+
+// A stream is polled through Stream.
+#[derive(Clone, Copy)]
+pub struct ByStream;
+
+pub impl<S: Stream> PollFn<S> for ByStream as StreamPoll {
+    type Answer = Option<S::Item>;
+
+    ghost wakes = { S·Stream .wakes };
+
+    ghost answers = { S·Stream .answers };
+
+    ghost after = { S·Stream .after };
+
+    fn poll(task: &mut S, post: &[u64]) -> (bool, Poll<Option<S::Item>>) {
+        task.poll_next(post)
+    }
+}
