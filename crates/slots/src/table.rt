@@ -2,11 +2,14 @@ ghost use Prim.Native.Nat.{ℕ, _+_, _<_};
 ghost use lib.ListN.{length, set};
 ghost use mathlib.Core.Bool.{true, cond};
 ghost use mathlib.Core.Path.{_≡_};
+ghost use Rattle.slots.specs.Polls.{pair-of, slots-after};
 ghost use Rattle.slots.specs.Table.{fresh-slots, task-at, occupied-at, next-in};
 ghost use Rattle.slots.specs.declared.slot.Slot.the-variants.{Occupied, NextFree};
 ghost use Rattle.std.specs.Finite.{nth};
 ghost use Rattle.std.specs.Options.{isSome};
 use crate::slot::Slot;
+use tasks::poll::Poll;
+use tasks::poll_fn::PollFn;
 
 // Makes every slot vacant; slot i points to i + 1.
 pub fn fresh_in<F: Copy>(slots: &mut [Slot<F>])
@@ -79,5 +82,19 @@ pub fn get_in<F: Copy>(slots: &[Slot<F>], key: usize) -> Option<F>
             Slot::NextFree(_) => None,
         },
         None => None,
+    }
+}
+
+// Polls the task in a slot, in place.
+pub fn poll_in<F: Copy, P: PollFn<F>>(slots: &mut [Slot<F>], key: usize, post: &[u64]) -> Option<(bool, Poll<P::Answer>)>
+    ensures pair { λ r. ⌜ r ≡ pair-of (P·PollFn .acts) (now (post .entry)) (task-at (now (slots .entry)) key) ⌝ }
+    ensures slots { λ _. ⌜ now (slots .exit) ≡ slots-after (P·PollFn .acts) (now (post .entry)) (now (slots .entry)) key (task-at (now (slots .entry)) key) ⌝ }
+{
+    if key >= slots.len() {
+        return None;
+    }
+    match &mut slots[key] {
+        Slot::Occupied(task) => Some(P::poll(task, post)),
+        Slot::NextFree(_) => None,
     }
 }

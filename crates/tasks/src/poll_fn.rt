@@ -1,8 +1,5 @@
-ghost use Prim.Native.Nat.{ℕ};
-ghost use mathlib.Core.Bool.{Bool};
-ghost use mathlib.Core.List.{List};
 ghost use mathlib.Core.Path.{_≡_};
-ghost use Rattle.tasks.specs.declared.poll.Poll.{Poll};
+ghost use Rattle.tasks.specs.Acts.{Acts};
 use crate::future::Future;
 use crate::poll::Poll;
 use crate::stream::Stream;
@@ -12,15 +9,12 @@ use crate::stream::Stream;
 pub trait PollFn<T> {
     type Answer;
 
-    ghost wakes: { T → List ℕ → Bool };
-
-    ghost answers: { T → List ℕ → Poll Self·Answer };
-
-    ghost after: { T → List ℕ → T };
+    // what a poll does
+    ghost acts: { Acts T Self·Answer };
 
     fn poll(task: &mut T, post: &[u64]) -> (bool, Poll<Self::Answer>)
-        ensures pair { λ r. ⌜ r ≡ (wakes (now (task .entry)) (now (post .entry)), answers (now (task .entry)) (now (post .entry))) ⌝ }
-        ensures left { λ _. ⌜ now (task .exit) ≡ after (now (task .entry)) (now (post .entry)) ⌝ };
+        ensures pair { λ r. ⌜ r ≡ (acts .wakes (now (task .entry)) (now (post .entry)), acts .answers (now (task .entry)) (now (post .entry))) ⌝ }
+        ensures left { λ _. ⌜ now (task .exit) ≡ acts .after (now (task .entry)) (now (post .entry)) ⌝ };
 }
 
 // A future is polled through Future.
@@ -30,11 +24,7 @@ pub struct ByFuture;
 pub impl<F: Future> PollFn<F> for ByFuture as FuturePoll {
     type Answer = F::Output;
 
-    ghost wakes = { F·Future .wakes };
-
-    ghost answers = { F·Future .answers };
-
-    ghost after = { F·Future .after };
+    ghost acts = { record { wakes = F·Future .wakes; answers = F·Future .answers; after = F·Future .after } };
 
     fn poll(task: &mut F, post: &[u64]) -> (bool, Poll<F::Output>) {
         task.poll(post)
@@ -48,11 +38,7 @@ pub struct ByStream;
 pub impl<S: Stream> PollFn<S> for ByStream as StreamPoll {
     type Answer = Option<S::Item>;
 
-    ghost wakes = { S·Stream .wakes };
-
-    ghost answers = { S·Stream .answers };
-
-    ghost after = { S·Stream .after };
+    ghost acts = { record { wakes = S·Stream .wakes; answers = S·Stream .answers; after = S·Stream .after } };
 
     fn poll(task: &mut S, post: &[u64]) -> (bool, Poll<Option<S::Item>>) {
         task.poll_next(post)
