@@ -1,2 +1,3 @@
 pub mod Free
+pub mod MemoryParts
 pub mod Walks
