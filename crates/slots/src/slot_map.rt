@@ -1,10 +1,11 @@
-ghost use Prim.Native.Nat.{_+_, _-_, _≤_};
+ghost use Prim.Native.Nat.{_+_, _-_, _<_, _≤_};
 ghost use lib.ListN.{length, take, drop};
 ghost use mathlib.Core.Bool.{cond};
 ghost use mathlib.Core.Path.{_≡_};
 ghost use Rattle.slots.specs.Held.{held, with-table, slots-of, Sound};
 ghost use Rattle.slots.specs.Polls.{pair-of, polled-at};
 ghost use Rattle.slots.specs.Table.{fresh, inserted, removed, task-at, full, len as tasks-in};
+ghost use Rattle.std.specs.Vec.{made};
 ghost use Rattle.std.specs.declared.result.Result.the-variants.{Ok, Err};
 use crate::slot::Slot;
 use crate::table::fresh_in;
@@ -29,7 +30,7 @@ impl<'a, F: Copy> PinSlotMap<'a, F> {
     // A fresh table in that part of the memory.
     pub fn new(slots: &'a mut [Slot<F>], start: usize, end: usize) -> PinSlotMap<'a, F>
         requires { ⌜ start ≤ end ⌝ ∗ ⌜ end ≤ length (now slots) ⌝ }
-        ensures made { λ r. ⌜ held r ≡ record { before = take start (now (slots .entry)); table = fresh (end - start); beyond = drop end (now (slots .entry)) } ⌝ }
+        ensures fresh { λ r. ⌜ held r ≡ record { before = take start (now (slots .entry)); table = fresh (end - start); beyond = drop end (now (slots .entry)) } ⌝ }
         ensures sound { λ r. ⌜ Sound r ⌝ }
     {
         fresh_in(&mut slots[start..end]);
@@ -42,6 +43,7 @@ impl<'a, F: Copy> PinSlotMap<'a, F> {
         ensures answer { λ r. ⌜ r ≡ cond (full (slots-of (now (self .entry)))) (Err task) (Ok (now (self .entry) .«free_head»)) ⌝ }
         ensures after { λ _. ⌜ held (now (self .exit)) ≡ with-table (held (now (self .entry))) (inserted (held (now (self .entry)) .table) task) ⌝ }
         ensures sound { λ _. ⌜ Sound (now (self .exit)) ⌝ }
+        ensures within { λ r. ⌜ made r (λ i. i < length (slots-of (now (self .entry)))) ⌝ }
     {
         let key = self.free_head;
         let start = self.start;

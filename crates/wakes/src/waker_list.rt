@@ -27,7 +27,7 @@ impl<'a> WakerList<'a> {
     // A fresh one in that part of the memory: nothing waits, and nobody is registered.
     pub fn new(records: &'a mut [WakeRecord], start: usize, end: usize) -> WakerList<'a>
         requires { ⌜ start ≤ end ⌝ ∗ ⌜ end ≤ length (now records) ⌝ }
-        ensures made { λ r. ⌜ held r ≡ record { before = take start (now (records .entry)); places = end - start; wakes = fresh; beyond = drop end (now (records .entry)) } ⌝ }
+        ensures fresh { λ r. ⌜ held r ≡ record { before = take start (now (records .entry)); places = end - start; wakes = fresh; beyond = drop end (now (records .entry)) } ⌝ }
         ensures sound { λ r. ⌜ Sound r ⌝ }
     {
         fresh_in(&mut records[start..end]);

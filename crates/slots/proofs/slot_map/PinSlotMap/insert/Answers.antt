@@ -24,6 +24,7 @@ returns-then-key-end g c =
     { answer = sym (cond-true (full slots) _ _ all)
     ; after = ap (λ t. with-table (held m) t) (sym (inserted-full (held m .table) (c .args .task) all))
     ; sound = c .pre
+    ; within = tt
     }
 
 pub add-self : need.add-self
@@ -42,4 +43,5 @@ returns g c =
     { answer = sym (cond-false (full (between (m .start) (m .end) (m .slots .now))) _ _ (i .is-open))
     ; after = i .held
     ; sound = i .sound-then
+    ; within = subst (λ n. m .«free_head» < n) (sym (length-between (m .slots .now) (m .start) (m .end) (c .pre .1))) (c .if-key-end .left)
     }

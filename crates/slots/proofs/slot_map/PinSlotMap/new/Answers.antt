@@ -25,6 +25,6 @@ returns g c =
           (subst (λ ss. Chained ss 0) (sym is) (fresh-chained (g .F .Denot) (e - a)))
           (sym (fresh-len (g .F .Denot) (e - a)) ∙ ap len (sym is)) in
     record
-    { made = there .held ∙ ap (λ ss. let h : Held (g .F .Denot) = record { before = take a xs; table = record { slots = ss; head = 0 }; beyond = drop e xs } in h) is
+    { fresh = there .held ∙ ap (λ ss. let h : Held (g .F .Denot) = record { before = take a xs; table = record { slots = ss; head = 0 }; beyond = drop e xs } in h) is
     ; sound = there .sound
     }

@@ -1,0 +1,3 @@
+// Sets of futures that complete in any order.
+pub mod group;
+pub mod turn;
