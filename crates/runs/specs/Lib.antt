@@ -1,0 +1,5 @@
+pub mod Calls
+pub mod Promises
+pub mod Size
+pub mod Tallies
+pub mod Tokens
