@@ -140,8 +140,8 @@ impl<'a, F: Future + Copy> TaskGroup<'a, F> {
     // Takes turns until a future is ready, and vacates its slot.
     pub fn poll_inner(&mut self, post: &[u64]) -> Polled<Option<F::Output>>
         requires { ⌜ Sound (now self) ⌝ }
-        ensures answer { λ r. ⌜ r ≡ polled (record { wakes = F·Future .wakes; answers = F·Future .answers; after = F·Future .after }) (now (post .entry)) (group-in (ground (now (self .entry)))) .answer ⌝ }
-        ensures after { λ _. ⌜ ground (now (self .exit)) ≡ with-group (ground (now (self .entry))) (polled (record { wakes = F·Future .wakes; answers = F·Future .answers; after = F·Future .after }) (now (post .entry)) (group-in (ground (now (self .entry)))) .group) ⌝ }
+        ensures answer { λ r. ⌜ r ≡ polled (F·Future .acts) (now (post .entry)) (group-in (ground (now (self .entry)))) .answer ⌝ }
+        ensures after { λ _. ⌜ ground (now (self .exit)) ≡ with-group (ground (now (self .entry))) (polled (F·Future .acts) (now (post .entry)) (group-in (ground (now (self .entry)))) .group) ⌝ }
         ensures sound { λ _. ⌜ Sound (now (self .exit)) ⌝ }
     {
         let Polled { poll, notices, turns } = self.poll_inner_no_remove::<ByFuture>(post);

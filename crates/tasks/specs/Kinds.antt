@@ -6,6 +6,7 @@ use mathlib.Core.Bool.{Bool, true, false, cond, not, _&&_, _||_}
 use mathlib.Core.List.{List}
 use Rattle.std.specs.declared.option.Option.{Option}
 use Rattle.std.specs.declared.option.Option.the-variants.{Some, None}
+use Rattle.tasks.specs.Acts.{Acts}
 use Rattle.tasks.specs.declared.poll.Poll.{Poll}
 use Rattle.tasks.specs.declared.poll.Poll.the-variants.{Ready, Pending}
 use Rattle.tasks.specs.declared.countdown.Countdown.{Countdown}
@@ -34,6 +35,9 @@ countdown-answers c post = cond (eqb (c .count) 0) (Ready (c .ticket)) Pending
 abbrev pub countdown-after : Countdown → List ℕ → Countdown
 countdown-after c post = record { ticket = c .ticket; count = c .count - 1; «wakes_itself» = c .«wakes_itself» }
 
+abbrev pub countdown-acts : Acts Countdown (ℕ × ℕ)
+countdown-acts = record { wakes = countdown-wakes; answers = countdown-answers; after = countdown-after }
+
 -- A Letter is ready with the word at its place, once there is one.
 abbrev pub letter-answers : Letter → List ℕ → Poll Delivery
 letter-answers l post =
@@ -43,6 +47,9 @@ letter-answers l post =
 abbrev pub letter-after : Letter → List ℕ → Letter
 letter-after l post = l
 
+abbrev pub letter-acts : Acts Letter Delivery
+letter-acts = record { wakes = never-wakes; answers = letter-answers; after = letter-after }
+
 -- An OrderWrapper does what its future does, and puts its index onto the output.
 abbrev pub wrapped-answers : {O : Type 0} → ℕ → Poll O → Poll (OrderWrapper O)
 wrapped-answers index (Ready x) = Ready (record { «data» = x; index = index })
@@ -50,6 +57,13 @@ wrapped-answers index Pending = Pending
 
 abbrev pub with-data : {F : Type 0} → OrderWrapper F → F → OrderWrapper F
 with-data w f = record { «data» = f; index = w .index }
+
+abbrev pub wrapped-acts : {F O : Type 0} → Acts F O → Acts (OrderWrapper F) (OrderWrapper O)
+wrapped-acts acts = record
+    { wakes = λ w post. acts .wakes (w .«data») post
+    ; answers = λ w post. wrapped-answers (w .index) (acts .answers (w .«data») post)
+    ; after = λ w post. with-data w (acts .after (w .«data») post)
+    }
 
 -- A stream's ticket is its owner and its next number; an item raises the number by one.
 abbrev pub raised : ℕ × ℕ → ℕ × ℕ
@@ -69,6 +83,9 @@ ticker-answers t post = cond (ticker-ends t) (Ready None) (Ready (Some (t .owner
 abbrev pub ticker-after : Ticker → List ℕ → Ticker
 ticker-after t post =
     record { owner = t .owner; next = cond (ticker-ends t) (t .next) (t .next + 1); items = t .items }
+
+abbrev pub ticker-acts : Acts Ticker (Option (ℕ × ℕ))
+ticker-acts = record { wakes = never-wakes; answers = ticker-answers; after = ticker-after }
 
 -- A Mailbag gives the word at its place and moves on by one. A word of all ones ends it.
 abbrev pub end-mark : ℕ
@@ -93,3 +110,6 @@ mailbag-after m post =
     ; next = cond (mailbag-gives m post) (m .next + 1) (m .next)
     ; place = cond (mailbag-gives m post) (m .place + 1) (m .place)
     }
+
+abbrev pub mailbag-acts : Acts Mailbag (Option Delivery)
+mailbag-acts = record { wakes = never-wakes; answers = mailbag-answers; after = mailbag-after }

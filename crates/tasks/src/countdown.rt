@@ -1,5 +1,4 @@
-ghost use mathlib.Core.Bool.{Bool};
-ghost use Rattle.tasks.specs.Kinds.{countdown-wakes, countdown-answers, countdown-after};
+ghost use Rattle.tasks.specs.Kinds.{countdown-acts};
 use crate::future::Future;
 use crate::poll::Poll;
 use crate::ticket::BareTicket;
@@ -24,11 +23,7 @@ pub impl Ticketed for Countdown as CountdownTicketed {
 pub impl Future for Countdown as CountdownFuture {
     type Output = (u32, u32);
 
-    ghost wakes = { countdown-wakes };
-
-    ghost answers = { countdown-answers };
-
-    ghost after = { countdown-after };
+    ghost acts = { countdown-acts };
 
     fn poll(&mut self, post: &[u64]) -> (bool, Poll<(u32, u32)>) {
         if self.count == 0 {

@@ -1,8 +1,7 @@
 ghost use Prim.Native.Nat.{ℕ};
-ghost use mathlib.Core.Bool.{Bool};
 ghost use mathlib.Core.List.{List};
 ghost use mathlib.Core.Path.{_≡_};
-ghost use Rattle.tasks.specs.declared.poll.Poll.{Poll};
+ghost use Rattle.tasks.specs.Acts.{Acts};
 ghost use Rattle.tasks.specs.declared.poll.Poll.the-variants.{Ready, Pending};
 use crate::poll::Poll;
 use crate::ticket::Ticketed;
@@ -11,20 +10,14 @@ use crate::ticket::Ticketed;
 pub trait Future: Ticketed {
     type Output: Ticketed;
 
-    // whether a poll with this post wakes the future itself
-    ghost wakes: { Self → List ℕ → Bool };
+    // what a poll does
+    ghost acts: { Acts Self Self·Output };
 
-    // what the poll answers
-    ghost answers: { Self → List ℕ → Poll Self·Output };
+    law pending_keeps_the_ticket: { (f : Self) (post : List ℕ) → acts .answers f post ≡ Pending → Self·Ticketed .bearing (acts .after f post) ≡ Self·Ticketed .bearing f };
 
-    // the future after the poll
-    ghost after: { Self → List ℕ → Self };
-
-    law pending_keeps_the_ticket: { (f : Self) (post : List ℕ) → answers f post ≡ Pending → Self·Ticketed .bearing (after f post) ≡ Self·Ticketed .bearing f };
-
-    law output_bears_the_ticket: { (f : Self) (post : List ℕ) (x : Self·Output) → answers f post ≡ Ready x → Output·Ticketed .bearing x ≡ Self·Ticketed .bearing f };
+    law output_bears_the_ticket: { (f : Self) (post : List ℕ) (x : Self·Output) → acts .answers f post ≡ Ready x → Output·Ticketed .bearing x ≡ Self·Ticketed .bearing f };
 
     fn poll(&mut self, post: &[u64]) -> (bool, Poll<Self::Output>)
-        ensures pair { λ r. ⌜ r ≡ (wakes (now (self .entry)) (now (post .entry)), answers (now (self .entry)) (now (post .entry))) ⌝ }
-        ensures left { λ _. ⌜ now (self .exit) ≡ after (now (self .entry)) (now (post .entry)) ⌝ };
+        ensures pair { λ r. ⌜ r ≡ (acts .wakes (now (self .entry)) (now (post .entry)), acts .answers (now (self .entry)) (now (post .entry))) ⌝ }
+        ensures left { λ _. ⌜ now (self .exit) ≡ acts .after (now (self .entry)) (now (post .entry)) ⌝ };
 }

@@ -1,4 +1,4 @@
-ghost use Rattle.tasks.specs.Kinds.{never-wakes, letter-answers, letter-after};
+ghost use Rattle.tasks.specs.Kinds.{letter-acts};
 use crate::future::Future;
 use crate::poll::Poll;
 use crate::post::word_at;
@@ -37,11 +37,7 @@ pub impl Ticketed for Letter as LetterTicketed {
 pub impl Future for Letter as LetterFuture {
     type Output = Delivery;
 
-    ghost wakes = { never-wakes };
-
-    ghost answers = { letter-answers };
-
-    ghost after = { letter-after };
+    ghost acts = { letter-acts };
 
     fn poll(&mut self, post: &[u64]) -> (bool, Poll<Delivery>) {
         let word = word_at(post, self.place);

@@ -1,4 +1,4 @@
-ghost use Rattle.tasks.specs.Kinds.{never-wakes, mailbag-answers, mailbag-after};
+ghost use Rattle.tasks.specs.Kinds.{mailbag-acts};
 use crate::letter::Delivery;
 use crate::letter::DeliveryTicketed;
 use crate::poll::Poll;
@@ -28,11 +28,7 @@ pub impl Ticketed for Mailbag as MailbagTicketed {
 pub impl Stream for Mailbag as MailbagStream {
     type Item = Delivery;
 
-    ghost wakes = { never-wakes };
-
-    ghost answers = { mailbag-answers };
-
-    ghost after = { mailbag-after };
+    ghost acts = { mailbag-acts };
 
     fn poll_next(&mut self, post: &[u64]) -> (bool, Poll<Option<Delivery>>) {
         let number = self.next;

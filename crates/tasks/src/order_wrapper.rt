@@ -1,4 +1,4 @@
-ghost use Rattle.tasks.specs.Kinds.{wrapped-answers, with-data};
+ghost use Rattle.tasks.specs.Kinds.{wrapped-acts};
 use crate::future::Future;
 use crate::poll::Poll;
 use crate::ticket::Ticketed;
@@ -21,11 +21,7 @@ pub impl<T: Ticketed> Ticketed for OrderWrapper<T> as OrderWrapperTicketed {
 pub impl<F: Future> Future for OrderWrapper<F> as OrderWrapperFuture {
     type Output = OrderWrapper<F::Output>;
 
-    ghost wakes = { λ w post. F·Future .wakes (w .data) post };
-
-    ghost answers = { λ w post. wrapped-answers (w .index) (F·Future .answers (w .data) post) };
-
-    ghost after = { λ w post. with-data w (F·Future .after (w .data) post) };
+    ghost acts = { wrapped-acts (F·Future .acts) };
 
     fn poll(&mut self, post: &[u64]) -> (bool, Poll<OrderWrapper<F::Output>>) {
         let index = self.index;

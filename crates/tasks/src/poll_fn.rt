@@ -24,7 +24,7 @@ pub struct ByFuture;
 pub impl<F: Future> PollFn<F> for ByFuture as FuturePoll {
     type Answer = F::Output;
 
-    ghost acts = { record { wakes = F·Future .wakes; answers = F·Future .answers; after = F·Future .after } };
+    ghost acts = { F·Future .acts };
 
     fn poll(task: &mut F, post: &[u64]) -> (bool, Poll<F::Output>) {
         task.poll(post)
@@ -38,7 +38,7 @@ pub struct ByStream;
 pub impl<S: Stream> PollFn<S> for ByStream as StreamPoll {
     type Answer = Option<S::Item>;
 
-    ghost acts = { record { wakes = S·Stream .wakes; answers = S·Stream .answers; after = S·Stream .after } };
+    ghost acts = { S·Stream .acts };
 
     fn poll(task: &mut S, post: &[u64]) -> (bool, Poll<Option<S::Item>>) {
         task.poll_next(post)

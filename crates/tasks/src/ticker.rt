@@ -1,4 +1,4 @@
-ghost use Rattle.tasks.specs.Kinds.{never-wakes, ticker-answers, ticker-after};
+ghost use Rattle.tasks.specs.Kinds.{ticker-acts};
 use crate::poll::Poll;
 use crate::stream::Stream;
 use crate::ticket::BareTicket;
@@ -23,11 +23,7 @@ pub impl Ticketed for Ticker as TickerTicketed {
 pub impl Stream for Ticker as TickerStream {
     type Item = (u32, u32);
 
-    ghost wakes = { never-wakes };
-
-    ghost answers = { ticker-answers };
-
-    ghost after = { ticker-after };
+    ghost acts = { ticker-acts };
 
     fn poll_next(&mut self, post: &[u64]) -> (bool, Poll<Option<(u32, u32)>>) {
         let number = self.next;
