@@ -1,4 +1,5 @@
 pub mod Calls
+pub mod Kinds
 pub mod Promises
 pub mod Size
 pub mod Tallies

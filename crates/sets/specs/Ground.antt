@@ -32,5 +32,12 @@ abbrev pub with-group : {F : Type 0} → Ground F → Group F → Ground F
 with-group g h = record { tasks = slots.with-table (g .tasks) (h .table); shared = wakes.with-wakes (g .shared) (h .wakes) }
 
 -- What a group keeps: its table and its wake list are sound, and there is one wake record for each slot.
+abbrev pub Paired : {F : Type 0} → TaskGroup F → Type 0
+Paired t = length (slots.slots-of (t .tasks)) ≡ length (wakes.records-of (t .shared))
+
 abbrev pub Sound : {F : Type 0} → TaskGroup F → Type 0
-Sound t = slots.Sound (t .tasks) × wakes.Sound (t .shared) × (length (slots.slots-of (t .tasks)) ≡ length (wakes.records-of (t .shared)))
+Sound t = slots.Sound (t .tasks) × wakes.Sound (t .shared) × Paired t
+
+-- A group whose part begins where the memory begins.
+abbrev pub From-start : {F : Type 0} → TaskGroup F → Type 0
+From-start t = (length (ground t .tasks .before) ≡ 0) × (length (ground t .shared .before) ≡ 0)

@@ -1,2 +1,4 @@
+pub mod Bounded
+pub mod BoundedSet
 pub mod Ground
 pub mod Group

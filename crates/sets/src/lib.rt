@@ -1,3 +1,4 @@
 // Sets of futures that complete in any order.
+pub mod futures_unordered_bounded;
 pub mod group;
 pub mod turn;

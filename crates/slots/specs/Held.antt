@@ -29,9 +29,17 @@ abbrev pub with-table : {F : Type 0} → Held F → Table F → Held F
 with-table h t = record { before = h .before; table = t; beyond = h .beyond }
 
 -- What a slot map keeps: its part lies in the memory, its free slots are chained, and it has counted its tasks.
+abbrev pub Starts : {F : Type 0} → PinSlotMap F → Type 0
+Starts m = m .start ≤ m .end
+
+abbrev pub Within : {F : Type 0} → PinSlotMap F → Type 0
+Within m = m .end ≤ length (now (m .slots))
+
+abbrev pub Free-chained : {F : Type 0} → PinSlotMap F → Type 0
+Free-chained m = Chained (slots-of m) (m .«free_head»)
+
+abbrev pub Counted : {F : Type 0} → PinSlotMap F → Type 0
+Counted m = m .filled ≡ len (slots-of m)
+
 abbrev pub Sound : {F : Type 0} → PinSlotMap F → Type 0
-Sound m =
-    (m .start ≤ m .end)
-    × (m .end ≤ length (now (m .slots)))
-    × Chained (slots-of m) (m .«free_head»)
-    × (m .filled ≡ len (slots-of m))
+Sound m = Starts m × Within m × Free-chained m × Counted m

@@ -61,5 +61,14 @@ abbrev pub with-wakes : Held → Wakes → Held
 with-wakes h w = record { before = h .before; places = h .places; wakes = w; beyond = h .beyond }
 
 -- What a wake list keeps: its part lies in the memory, and the queue in the part.
+abbrev pub Starts : WakerList → Type 0
+Starts l = l .start ≤ l .end
+
+abbrev pub Within : WakerList → Type 0
+Within l = l .end ≤ length (now (l .records))
+
+abbrev pub Queue-kept : WakerList → Type 0
+Queue-kept l = Queued (records-of l) (l .queue)
+
 abbrev pub Sound : WakerList → Type 0
-Sound l = (l .start ≤ l .end) × (l .end ≤ length (now (l .records))) × Queued (records-of l) (l .queue)
+Sound l = Starts l × Within l × Queue-kept l
