@@ -8,7 +8,7 @@ use Rattle.runs.specs.Calls.{Step}
 use Rattle.runs.specs.Kinds.{Kind}
 use Rattle.runs.specs.Kinds as kinds
 use Rattle.runs.specs.Tokens.{Tokened}
-use Rattle.sets.specs.Group.{Group, joined, polled}
+use Rattle.sets.specs.Group.{Group, joined, polled, woken-at}
 use Rattle.sets.specs.Group as group
 use Rattle.slots.specs.Table.{len, full, occupied-at}
 use Rattle.slots.specs.declared.slot.Slot.{Slot}
@@ -66,7 +66,7 @@ tokened = record
     ; with-out = with-out
     ; occupied = λ s a. occupied-at (slots-of s) a
     ; known = λ s a. ltb a (length (slots-of s))
-    ; woken = λ s a. with-group s (record { table = s .group .table; wakes = wakes.woken (s .group .wakes) a })
+    ; woken = λ s a. with-group s (woken-at (s .group) a)
     ; notices = λ s a. wakes.notice (s .group .wakes) a
     }
 

@@ -43,6 +43,10 @@ pub record Outcome (F A : Type 0) : Type 0 where
   pub answer : Polled (Option A)
   pub group : Group F
 
+-- A wake of a slot.
+abbrev pub woken-at : {F : Type 0} → Group F → ℕ → Group F
+woken-at g i = record { table = g .table; wakes = woken (g .wakes) i }
+
 -- A slot is woken if its task woke itself.
 abbrev pub woken-if : Bool → Wakes → ℕ → Wakes
 woken-if woke w i = record

@@ -3,8 +3,8 @@ ghost use lib.ListN.{length};
 ghost use mathlib.Core.Bool.{cond};
 ghost use mathlib.Core.Path.{_≡_};
 ghost use Rattle.sets.specs.Ground.{ground, fresh-ground, group-in, with-group, Sound};
-ghost use Rattle.sets.specs.Group.{joined, found, polled, turn as turn-of, woken-if};
-ghost use Rattle.slots.specs.Table.{full, len as tasks-in};
+ghost use Rattle.sets.specs.Group.{joined, found, polled, turn as turn-of, woken-at, woken-if};
+ghost use Rattle.slots.specs.Table.{full, occupied-at, len as tasks-in};
 ghost use Rattle.std.specs.declared.result.Result.the-variants.{Ok, Err};
 ghost use Rattle.wakes.specs.Wakes.{notice, held as wakes-held, with-wakes, records-of, Sound as SoundWakes};
 use crate::turn::Found;
@@ -86,6 +86,27 @@ impl<'a, F: Copy> TaskGroup<'a, F> {
         ensures { λ r. ⌜ r ≡ length (group-in (ground (now (self .entry))) .table .slots) ⌝ }
     {
         self.tasks.capacity()
+    }
+
+    // Whether a task lies in that slot.
+    pub fn is_occupied(&self, slot: usize) -> bool
+        requires { ⌜ Sound (now self) ⌝ }
+        ensures { λ r. ⌜ r ≡ occupied-at (group-in (ground (now (self .entry))) .table .slots) slot ⌝ }
+    {
+        match self.tasks.get(slot) {
+            Some(_) => true,
+            None => false,
+        }
+    }
+
+    // Wakes a slot; tells how many notices the parent was given, 0 or 1.
+    pub fn wake(&mut self, slot: usize) -> u32
+        requires { ⌜ Sound (now self) ⌝ ∗ ⌜ slot < length (group-in (ground (now self)) .table .slots) ⌝ }
+        ensures notices { λ r. ⌜ r ≡ notice (group-in (ground (now (self .entry))) .wakes) slot ⌝ }
+        ensures after { λ _. ⌜ ground (now (self .exit)) ≡ with-group (ground (now (self .entry))) (woken-at (group-in (ground (now (self .entry)))) slot) ⌝ }
+        ensures sound { λ _. ⌜ Sound (now (self .exit)) ⌝ }
+    {
+        self.shared.wake(slot)
     }
 
     // Takes one slot from the queue, and polls its task.

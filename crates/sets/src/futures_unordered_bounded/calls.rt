@@ -1,7 +1,11 @@
+ghost use Prim.Native.Nat.{_<_};
+ghost use lib.ListN.{length};
 ghost use mathlib.Core.Path.{_≡_};
-ghost use Rattle.runs.specs.Calls.{push as Push, poll as Poll-call, ask};
-ghost use Rattle.sets.specs.Bounded.{made, step, how-many, how-many-can-be};
+ghost use Rattle.runs.specs.Calls.{push as Push, poll as Poll-call, hand as Hand, clone as Clone-call, wake as Wake, wake-by-ref as Wake-by-ref, drop as Drop-call, may-end as May-end, ask};
+ghost use Rattle.runs.specs.Tokens.{spend-fault};
+ghost use Rattle.sets.specs.Bounded.{made, step, tokened, slots-of, how-many, how-many-can-be};
 ghost use Rattle.sets.specs.BoundedSet.{set-of};
+ghost use Rattle.std.specs.Options.{Cases as BySome};
 use crate::futures_unordered_bounded::FuturesUnorderedBounded;
 use crate::group::TaskGroup;
 use slots::slot::Slot;
@@ -10,6 +14,11 @@ use tasks::fault::Refused;
 use tasks::future::Future;
 use tasks::poll::Polled;
 use wakes::wake_record::WakeRecord;
+use wakes::waker::RawWaker;
+use wakes::waker::Waker;
+
+// A set has at most that many tokens out.
+const MOST_TOKENS: usize = 65535;
 
 // A set has at most that many slots.
 const MOST_SLOTS: usize = 65536;
@@ -56,5 +65,108 @@ impl<'a, F: Future + Copy> FuturesUnorderedBounded<'a, F> {
         ensures { λ r. ⌜ r ≡ step (F·Future .acts) (set-of (now (self .entry))) (ask how-many-can-be) .1 ⌝ }
     {
         self.group.capacity()
+    }
+
+    // Hands out the token of an occupied slot.
+    pub fn hand(&mut self, address: usize) -> Result<Waker, Refused<usize>>
+        ensures answer { λ r. ⌜ r ≡ step (F·Future .acts) (set-of (now (self .entry))) (Hand address) .1 ⌝ }
+        ensures after { λ _. ⌜ set-of (now (self .exit)) ≡ step (F·Future .acts) (set-of (now (self .entry))) (Hand address) .0 ⌝ }
+    {
+        if !self.group.is_occupied(address) {
+            return Err(Refused { fault: Fault::NoSuchSlot { address }, input: address });
+        }
+        if self.tokens == MOST_TOKENS {
+            return Err(Refused { fault: Fault::TooManyTokens { out: self.tokens }, input: address });
+        }
+        self.tokens += 1;
+        Ok(Waker::from_raw(RawWaker { name: self.name, address }))
+    }
+
+    // Why a token is refused: it bears another name, none is out, or no slot has its address.
+    fn token_fault(&self, token: &Waker) -> Option<Fault>
+        ensures fault { λ r. ⌜ r ≡ spend-fault tokened (set-of (now (self .entry))) (now (token .entry)) ⌝ }
+        ensures good { λ r. ⌜ BySome r ((0 < now (self .entry) .tokens) × (now (token .entry) .address < length (slots-of (set-of (now (self .entry)))))) (λ _. Unit {0}) ⌝ }
+    {
+        let name = token.name();
+        let address = token.address();
+        if name != self.name {
+            return Some(Fault::OtherName { name });
+        }
+        if self.tokens == 0 {
+            return Some(Fault::NoTokenOut);
+        }
+        if address >= self.group.capacity() {
+            return Some(Fault::NoSuchSlot { address });
+        }
+        None
+    }
+
+    // Hands out another token like the one that is lent.
+    pub fn clone(&mut self, token: &Waker) -> Result<Waker, Fault>
+        ensures answer { λ r. ⌜ r ≡ step (F·Future .acts) (set-of (now (self .entry))) (Clone-call (now (token .entry))) .1 ⌝ }
+        ensures after { λ _. ⌜ set-of (now (self .exit)) ≡ step (F·Future .acts) (set-of (now (self .entry))) (Clone-call (now (token .entry))) .0 ⌝ }
+    {
+        match self.token_fault(token) {
+            Some(fault) => Err(fault),
+            None => {
+                if self.tokens == MOST_TOKENS {
+                    return Err(Fault::TooManyTokens { out: self.tokens });
+                }
+                self.tokens += 1;
+                Ok(Waker::from_raw(RawWaker { name: token.name(), address: token.address() }))
+            }
+        }
+    }
+
+    // Wakes the token's slot and spends the token; answers the notices, 0 or 1.
+    pub fn wake(&mut self, token: Waker) -> Result<u32, Refused<Waker>>
+        ensures answer { λ r. ⌜ r ≡ step (F·Future .acts) (set-of (now (self .entry))) (Wake token) .1 ⌝ }
+        ensures after { λ _. ⌜ set-of (now (self .exit)) ≡ step (F·Future .acts) (set-of (now (self .entry))) (Wake token) .0 ⌝ }
+    {
+        match self.token_fault(&token) {
+            Some(fault) => Err(Refused { fault, input: token }),
+            None => {
+                let raw = token.into_raw();
+                let notices = self.group.wake(raw.address);
+                self.tokens -= 1;
+                Ok(notices)
+            }
+        }
+    }
+
+    // Wakes the token's slot and spends nothing; answers the notices, 0 or 1.
+    pub fn wake_by_ref(&mut self, token: &Waker) -> Result<u32, Fault>
+        ensures answer { λ r. ⌜ r ≡ step (F·Future .acts) (set-of (now (self .entry))) (Wake-by-ref (now (token .entry))) .1 ⌝ }
+        ensures after { λ _. ⌜ set-of (now (self .exit)) ≡ step (F·Future .acts) (set-of (now (self .entry))) (Wake-by-ref (now (token .entry))) .0 ⌝ }
+    {
+        match self.token_fault(token) {
+            Some(fault) => Err(fault),
+            None => Ok(self.group.wake(token.address())),
+        }
+    }
+
+    // Spends the token and wakes nothing.
+    pub fn drop(&mut self, token: Waker) -> Result<(), Refused<Waker>>
+        ensures answer { λ r. ⌜ r ≡ step (F·Future .acts) (set-of (now (self .entry))) (Drop-call token) .1 ⌝ }
+        ensures after { λ _. ⌜ set-of (now (self .exit)) ≡ step (F·Future .acts) (set-of (now (self .entry))) (Drop-call token) .0 ⌝ }
+    {
+        match self.token_fault(&token) {
+            Some(fault) => Err(Refused { fault, input: token }),
+            None => {
+                let _ = token.into_raw();
+                self.tokens -= 1;
+                Ok(())
+            }
+        }
+    }
+
+    // Whether the set may be taken apart: no token is out.
+    pub fn may_end(&self) -> Result<(), Fault>
+        ensures { λ r. ⌜ r ≡ step (F·Future .acts) (set-of (now (self .entry))) May-end .1 ⌝ }
+    {
+        if self.tokens == 0 {
+            return Ok(());
+        }
+        Err(Fault::TokensOut { count: self.tokens })
     }
 }
