@@ -6,7 +6,7 @@ use mathlib.Core.List.{List, [], _∷_, _++_}
 use mathlib.Core.Path.{_≡_, refl, sym, ap, subst, _∙_}
 use native.Mathlib.Omega.{arith}
 use Rattle.std.proofs.shelf.Edits.{length-between, getD-between}
-use Rattle.std.proofs.shelf.Lists.{length-take, length-drop, length-append}
+use Rattle.std.proofs.shelf.Lists.{length-take, length-take-le, length-drop, length-append, drop-drop, take-append-drop}
 use Rattle.std.proofs.shelf.Maps.{nth-getD}
 use Rattle.std.proofs.shelf.Parts.{take-putMid-below, between-putMid, drop-putMid}
 use Rattle.std.specs.Finite.{nth}
@@ -38,3 +38,28 @@ put-part xs ys a e ae within same =
 -- the element of a part is the one of the memory
 pub nth-between : {X : Type 0} (xs : List X) (a e k : ℕ) → e ≤ length xs → k < e - a → nth (between a e xs) k ≡ nth xs (a + k)
 nth-between xs a e k within lt = nth-at (between a e xs) xs k (a + k) (simp length-between lt) (omega arith) (λ d. getD-between xs a e k d (omega arith))
+
+-- a memory is what lies before a part, the part, and what lies beyond it
+pub whole-from-parts : {X : Type 0} (xs : List X) (a e : ℕ) → a ≤ e → take a xs ++ (between a e xs ++ drop e xs) ≡ xs
+whole-from-parts xs a e ae =
+    let to : a + (e - a) ≡ e = omega arith in
+    ap (λ n. take a xs ++ (between a e xs ++ drop n xs)) (sym to)
+    ∙ ap (λ ys. take a xs ++ (between a e xs ++ ys)) (sym (drop-drop (e - a) a xs))
+    ∙ ap (λ ys. take a xs ++ ys) (take-append-drop (e - a) (drop a xs))
+    ∙ take-append-drop a xs
+
+pub record Given {X : Type 0} (xs : List X) (a e : ℕ) : Type 0 where
+  pub before : take (length (take a xs)) xs ≡ take a xs
+  pub beyond : drop (length (take a xs) + length (between a e xs)) xs ≡ drop e xs
+  pub long : length xs ≡ length (take a xs) + length (between a e xs) + length (drop e xs)
+
+pub given : {X : Type 0} (xs : List X) (a e : ℕ) → a ≤ e → e ≤ length xs → Given xs a e
+given xs a e ae within =
+    let first : length (take a xs) ≡ a = length-take-le a xs (omega arith) in
+    let mid : length (between a e xs) ≡ e - a = length-between xs a e within in
+    let sum : length (take a xs) + length (between a e xs) ≡ e = omega (arith, first, mid) in
+    record
+    { before = ap (λ n. take n xs) first
+    ; beyond = ap (λ n. drop n xs) sum
+    ; long = omega (arith, sum, length-drop e xs)
+    }

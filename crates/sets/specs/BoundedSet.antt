@@ -1,8 +1,16 @@
 -- What a FuturesUnorderedBounded holds.
-use mathlib.Core.List.{List}
-use Rattle.sets.specs.Bounded.{Bounded}
+use Prim.Native.Nat.{_+_}
+use denote.Ref.{now}
+use lib.ListN.{length, drop}
+use mathlib.Core.List.{_++_}
+use mathlib.Core.Path.{_≡_}
+use Rattle.runs.specs.Tokens.{end-fault}
+use Rattle.sets.specs.Bounded.{Bounded, slots-of, tokened}
 use Rattle.sets.specs.Ground.{ground, group-in}
 use Rattle.sets.specs.declared.futures_unordered_bounded.FuturesUnorderedBounded.{FuturesUnorderedBounded}
+use Rattle.sets.specs.declared.futures_unordered_bounded.ending.Ending.{Ending}
+use Rattle.sets.specs.declared.futures_unordered_bounded.ending.Ending.the-variants.{Ended, Refused}
+use Rattle.std.specs.declared.option.Option.the-variants.{Some, None}
 
 abbrev pub set-of : {F : Type 0} → FuturesUnorderedBounded F → Bounded F
 set-of s = record
@@ -12,3 +20,13 @@ set-of s = record
     ; slots-beyond = ground (s .group) .tasks .beyond
     ; records-beyond = ground (s .group) .shared .beyond
     }
+
+-- A set that may end gives its memory back: the slots as they are, and the wake memory beyond its part as it was. One
+-- that may not is handed back with the fault, as it was.
+abbrev pub Taken-apart : {F : Type 0} → Bounded F → Ending F → Type 0
+Taken-apart s (Ended m) =
+    (end-fault tokened s ≡ None)
+    × (now (m .slots) ≡ slots-of s ++ s .slots-beyond)
+    × (drop (length (slots-of s)) (now (m .records)) ≡ s .records-beyond)
+    × (length (now (m .records)) ≡ length (slots-of s) + length (s .records-beyond))
+Taken-apart s (Refused f e) = (end-fault tokened s ≡ Some f) × (set-of e ≡ s)

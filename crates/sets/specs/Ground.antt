@@ -1,5 +1,5 @@
 -- A group in its part of the caller's memory.
-use Prim.Native.Nat.{ℕ, _-_}
+use Prim.Native.Nat.{ℕ, _+_, _-_}
 use lib.ListN.{length, take, drop}
 use mathlib.Core.List.{List}
 use mathlib.Core.Path.{_≡_}
@@ -41,3 +41,9 @@ Sound t = slots.Sound (t .tasks) × wakes.Sound (t .shared) × Paired t
 -- A group whose part begins where the memory begins.
 abbrev pub From-start : {F : Type 0} → TaskGroup F → Type 0
 From-start t = (length (ground t .tasks .before) ≡ 0) × (length (ground t .shared .before) ≡ 0)
+
+-- Wake memory that is given back: what lies before and beyond the part is as it was, and so is its length.
+pub record Given-back (h : wakes.Held) (records : List WakeRecord) : Type 0 where
+  pub before : take (length (h .before)) records ≡ h .before
+  pub beyond : drop (length (h .before) + h .places) records ≡ h .beyond
+  pub long : length records ≡ length (h .before) + h .places + length (h .beyond)

@@ -5,9 +5,9 @@ ghost use Rattle.wakes.specs.Wakes.{Starts as RecordsStart, Within as RecordsWi
 use crate::group::TaskGroup;
 
 pub mod calls;
+pub mod ending;
 
 // A set of futures that complete in any order, in memory of the caller's: one slot and one wake record for each.
-#[derive(Drop)]
 pub struct FuturesUnorderedBounded<'a, F> {
     name: u32,
     tokens: usize,

@@ -1,12 +1,14 @@
 ghost use Prim.Native.Nat.{_<_, _≤_};
 ghost use lib.ListN.{length};
 ghost use mathlib.Core.Bool.{cond};
+ghost use mathlib.Core.List.{_++_};
 ghost use mathlib.Core.Path.{_≡_};
-ghost use Rattle.sets.specs.Ground.{ground, fresh-ground, group-in, with-group, Sound};
+ghost use Rattle.sets.specs.Ground.{ground, fresh-ground, group-in, with-group, Given-back, Sound};
 ghost use Rattle.sets.specs.Group.{joined, found, polled, turn as turn-of, woken-at, woken-if};
 ghost use Rattle.slots.specs.Table.{full, occupied-at, len as tasks-in};
 ghost use Rattle.std.specs.declared.result.Result.the-variants.{Ok, Err};
 ghost use Rattle.wakes.specs.Wakes.{notice, held as wakes-held, with-wakes, records-of, Sound as SoundWakes};
+use crate::memory::Memory;
 use crate::turn::Found;
 use crate::turn::Turn;
 use slots::slot::Slot;
@@ -24,7 +26,6 @@ use wakes::waker_list::WakerList;
 const MAX: u32 = 61;
 
 // A group of tasks on its part of the caller's memory.
-#[derive(Drop)]
 pub struct TaskGroup<'a, F> {
     tasks: PinSlotMap<'a, F>,
     shared: WakerList<'a>,
@@ -107,6 +108,18 @@ impl<'a, F: Copy> TaskGroup<'a, F> {
         ensures sound { λ _. ⌜ Sound (now (self .exit)) ⌝ }
     {
         self.shared.wake(slot)
+    }
+
+    // Gives the memory back as it is.
+    pub fn take_apart(self) -> Memory<'a, F>
+        requires { ⌜ Sound self ⌝ }
+        ensures slots { λ r. ⌜ now (r .slots) ≡ ground (self .entry) .tasks .before ++ (ground (self .entry) .tasks .table .slots ++ ground (self .entry) .tasks .beyond) ⌝ }
+        ensures records { λ r. ⌜ Given-back (ground (self .entry) .shared) (now (r .records)) ⌝ }
+    {
+        let TaskGroup { tasks, shared } = self;
+        let slots = tasks.take_apart();
+        let records = shared.take_apart();
+        Memory { slots, records }
     }
 
     // Takes one slot from the queue, and polls its task.

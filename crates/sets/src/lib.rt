@@ -1,4 +1,5 @@
 // Sets of futures that complete in any order.
 pub mod futures_unordered_bounded;
 pub mod group;
+pub mod memory;
 pub mod turn;

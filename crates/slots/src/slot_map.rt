@@ -17,7 +17,6 @@ use tasks::poll::Poll;
 use tasks::poll_fn::PollFn;
 
 // A table of slots in the part from `start` to `end` of the caller's memory.
-#[derive(Drop)]
 pub struct PinSlotMap<'a, F> {
     slots: &'a mut [Slot<F>],
     start: usize,
@@ -110,5 +109,13 @@ impl<'a, F: Copy> PinSlotMap<'a, F> {
         ensures { λ r. ⌜ r ≡ length (slots-of (now (self .entry))) ⌝ }
     {
         self.end - self.start
+    }
+
+    // Gives the memory back as it is.
+    pub fn take_apart(self) -> &'a mut [Slot<F>]
+        ensures { λ r. ⌜ now r ≡ now (self .entry .slots) ⌝ }
+    {
+        let PinSlotMap { slots, start: _, end: _, free_head: _, filled: _ } = self;
+        slots
     }
 }

@@ -14,7 +14,6 @@ use crate::wake_record::WakeRecord;
 
 // The wake records of the part from `start` to `end` of the caller's memory, the queue that is kept in them, and
 // the registration of the parent.
-#[derive(Drop)]
 pub struct WakerList<'a> {
     records: &'a mut [WakeRecord],
     start: usize,
@@ -101,5 +100,13 @@ impl<'a> WakerList<'a> {
         let slot = dequeue_in(&mut self.records[start..end], &mut queue);
         self.queue = queue;
         slot
+    }
+
+    // Gives the memory back as it is.
+    pub fn take_apart(self) -> &'a mut [WakeRecord]
+        ensures { λ r. ⌜ now r ≡ now (self .entry .records) ⌝ }
+    {
+        let WakerList { records, start: _, end: _, queue: _, registered: _ } = self;
+        records
     }
 }

@@ -4,8 +4,9 @@ ghost use mathlib.Core.Path.{_≡_};
 ghost use Rattle.runs.specs.Calls.{push as Push, poll as Poll-call, hand as Hand, clone as Clone-call, wake as Wake, wake-by-ref as Wake-by-ref, drop as Drop-call, may-end as May-end, ask};
 ghost use Rattle.runs.specs.Tokens.{spend-fault};
 ghost use Rattle.sets.specs.Bounded.{made, step, tokened, slots-of, how-many, how-many-can-be};
-ghost use Rattle.sets.specs.BoundedSet.{set-of};
+ghost use Rattle.sets.specs.BoundedSet.{set-of, Taken-apart};
 ghost use Rattle.std.specs.Options.{Cases as BySome};
+use crate::futures_unordered_bounded::ending::Ending;
 use crate::futures_unordered_bounded::FuturesUnorderedBounded;
 use crate::group::TaskGroup;
 use slots::slot::Slot;
@@ -168,5 +169,18 @@ impl<'a, F: Future + Copy> FuturesUnorderedBounded<'a, F> {
             return Ok(());
         }
         Err(Fault::TokensOut { count: self.tokens })
+    }
+
+    // Gives the memory back, or the set itself while tokens are out.
+    pub fn take_apart(self) -> Ending<'a, F>
+        ensures { λ r. ⌜ Taken-apart (set-of (self .entry)) r ⌝ }
+    {
+        match self.may_end() {
+            Ok(()) => {
+                let FuturesUnorderedBounded { name: _, tokens: _, group } = self;
+                Ending::Ended(group.take_apart())
+            }
+            Err(fault) => Ending::Refused(fault, self),
+        }
     }
 }
