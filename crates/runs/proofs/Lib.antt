@@ -1,0 +1,2 @@
+pub mod TicketRuns
+pub mod TokenRuns

@@ -1,5 +1,6 @@
 pub mod Calls
 pub mod Kinds
+pub mod Laws
 pub mod Promises
 pub mod Size
 pub mod Tallies
