@@ -75,6 +75,7 @@ module _ {F : Type 0} where
     pub chained : Chained (set slots head (Occupied f)) (next-in (nth slots head))
     pub counted : len (set slots head (Occupied f)) ≡ len slots + 1
     pub room : len slots < length slots
+    pub was-vacant : vacant (getD slots head (NextFree 0)) ≡ true
 
   pub insert-chained : (slots : List (Slot F)) (head : ℕ) (f : F) → Chained slots head → full slots ≡ false → Inserts slots head f
   unfolding vacancies
@@ -99,6 +100,7 @@ module _ {F : Type 0} where
             (subst (λ ls. Free (set (map vacant slots) head false) ls (getD (map next slots) head 0)) links (p .1)))
       ; counted = omega (arith, counts, zero-was)
       ; room = omega (arith, sum, some)
+      ; was-vacant = was
       }
 
   pub full-head : (slots : List (Slot F)) (head : ℕ) → Chained slots head → full slots ≡ true → head ≡ length slots

@@ -1,0 +1,140 @@
+-- The bounded set has the laws that the promise over every run asks for.
+use Prim.Native.Nat.{ℕ, zero, suc, _+_, _<_}
+use lib.Dec.{eqb, ltb}
+use lib.ListN.{length, getD, set}
+use mathlib.Core.Bool.{Bool, true, false, cond, not}
+use mathlib.Core.List.{List, [], _∷_, map}
+use mathlib.Core.Path.{_≡_, refl, sym, ap, subst, _∙_}
+use native.Mathlib.Omega.{arith}
+use Rattle.runs.proofs.TicketRuns.{promises}
+use Rattle.runs.specs.Laws.{Token-laws, Ticket-laws}
+use Rattle.runs.specs.Promises.{Promises}
+use Rattle.runs.specs.Size.{size, distance-to-end}
+use Rattle.runs.specs.Tallies.{if-ok}
+use Rattle.sets.proofs.FairPolls.{Fair, fair, weight, weigh, weigh-set, count-inside, length-held, none-empty, empty-none}
+use Rattle.sets.specs.Bounded.{Bounded, Question, how-many, how-many-can-be, made, kind, step, slots-of, elements, held-in, push-answer, capacity-of}
+use Rattle.sets.specs.Group.{Group, joined, polled}
+use Rattle.slots.proofs.Chained.{Inserts, insert-chained, fresh-chained, fresh-len, occupied-within}
+use Rattle.slots.proofs.HeldParts.{inserted-full, inserted-open}
+use Rattle.slots.specs.Table.{Table, len, full, inserted, occupied-at, vacant, Chained, fresh-slots}
+use Rattle.slots.specs.declared.slot.Slot.{Slot}
+use Rattle.slots.specs.declared.slot.Slot.the-variants.{Occupied, NextFree}
+use Rattle.std.proofs.shelf.Lists.{length-set, length-map, nil-from-length}
+use Rattle.std.proofs.shelf.Sums.{sumBy-cons}
+use Rattle.std.proofs.shelf.Tests.{both-ways, lt-ltb, cond-true, cond-false}
+use Rattle.std.specs.declared.option.Option.{Option}
+use Rattle.std.specs.declared.option.Option.the-variants.{Some, None}
+use Rattle.std.specs.declared.result.Result.{Result}
+use Rattle.std.specs.declared.result.Result.the-variants.{Ok, Err}
+use Rattle.std.specs.shelf.Lists.{countBy}
+use Rattle.tasks.specs.Acts.{Acts}
+use Rattle.tasks.specs.declared.fault.Fault.the-variants.{NoVacantSlot}
+use Rattle.tasks.specs.declared.fault.Refused.{Refused}
+use Rattle.tasks.specs.declared.poll.Poll.the-variants.{Ready, Pending}
+use Rattle.wakes.specs.declared.wake_record.WakeRecord.{WakeRecord}
+
+size-length : {X : Type 0} (xs : List X) → length xs ≡ size xs
+size-length [] = refl
+size-length (x ∷ xs) = ap suc (size-length xs)
+
+length-cond : {F : Type 0} (b : Bool) (slots : List (Slot F)) (i : ℕ) (s : Slot F) → length (cond b slots (set slots i s)) ≡ length slots
+length-cond true slots i s = refl
+length-cond false slots i s = length-set slots i s
+
+weight-vacant : {F X : Type 0} (bearing : F → X) (test : X → Bool) (s : Slot F) → vacant s ≡ true → weight bearing test s ≡ 0
+weight-vacant bearing test (Occupied f) e = absurd (both-ways false refl e)
+weight-vacant bearing test (NextFree n) e = refl
+
+-- a push, by whether the set is full
+module _ {F X : Type 0} (bearing : F → X) (s : Bounded F) (f : F) (chained : Chained (slots-of s) (s .group .table .head)) where
+  push-chained : (b : Bool) → full (slots-of s) ≡ b → Chained (inserted (s .group .table) f .slots) (inserted (s .group .table) f .head)
+  push-chained true e = subst (λ (t : Table F). Chained (t .slots) (t .head)) (sym (inserted-full (s .group .table) f e)) chained
+  push-chained false e =
+      subst (λ (t : Table F). Chained (t .slots) (t .head)) (sym (inserted-open (s .group .table) f e)) (insert-chained (slots-of s) (s .group .table .head) f chained e .chained)
+
+  push-counts : (test : X → Bool) (b : Bool) → full (slots-of s) ≡ b
+      → weigh bearing test (slots-of s) + countBy test (if-ok (bearing f) (push-answer s f)) ≡ weigh bearing test (inserted (s .group .table) f .slots)
+  push-counts test true e =
+      let a : countBy test (if-ok (bearing f) (push-answer s f)) ≡ 0
+            = ap (λ r. countBy test (if-ok (bearing f) r)) (cond-true (full (slots-of s)) (Err (record { fault = NoVacantSlot (length (slots-of s)); input = f })) (Ok (s .group .table .head)) e) in
+      let w = ap (λ (t : Table F). weigh bearing test (t .slots)) (inserted-full (s .group .table) f e) in
+      omega (arith, a, w)
+  push-counts test false e =
+      let i : Inserts (slots-of s) (s .group .table .head) f = insert-chained (slots-of s) (s .group .table .head) f chained e in
+      let a : countBy test (if-ok (bearing f) (push-answer s f)) ≡ countBy test (bearing f ∷ [])
+            = ap (λ r. countBy test (if-ok (bearing f) r)) (cond-false (full (slots-of s)) (Err (record { fault = NoVacantSlot (length (slots-of s)); input = f })) (Ok (s .group .table .head)) e) in
+      let one = sumBy-cons (λ x. cond (test x) 1 0) (bearing f) [] in
+      let w = ap (λ (t : Table F). weigh bearing test (t .slots)) (inserted-open (s .group .table) f e) in
+      let d = weigh-set bearing test (slots-of s) (s .group .table .head) (Occupied f) (i .within) in
+      let z = weight-vacant bearing test (getD (slots-of s) (s .group .table .head) (NextFree 0)) (i .was-vacant) in
+      omega (arith, a, one, w, d, z)
+
+fresh-held : {F : Type 0} (slots : List (Slot F)) → len slots ≡ 0 → held-in slots ≡ []
+fresh-held slots e = nil-from-length (held-in slots) (length-held slots ∙ e)
+
+-- for every kind of future that keeps its ticket while pending, and whose output bears it
+module _ {F O : Type 0} (acts : Acts F O) (bearing : F → ℕ × ℕ) (bears : O → ℕ × ℕ)
+    (keeps : (f : F) (post : List ℕ) → acts .answers f post ≡ Pending → bearing (acts .after f post) ≡ bearing f)
+    (gives : (f : F) (post : List ℕ) (x : O) → acts .answers f post ≡ Ready x → bears x ≡ bearing f) where
+
+  Inv : Bounded F → Type 0
+  Inv s = Chained (slots-of s) (s .group .table .head)
+
+  inside : Bounded F → List (ℕ × ℕ)
+  inside s = map bearing (elements s)
+
+  poll-fair : (s : Bounded F) (post : List ℕ) → Fair acts bearing bears post (λ f e. keeps f post e) (λ f x e. gives f post x e) (s .group) (polled acts post (s .group) .group) (polled acts post (s .group) .answer .poll)
+  poll-fair s post = fair acts bearing bears post (λ f e. keeps f post e) (λ f x e. gives f post x e) (s .group)
+
+  token-laws : Token-laws (kind acts)
+  token-laws = record
+      { out-set = λ s n. refl
+      ; out-woken = λ s a. refl
+      ; out-pushed = λ s f. refl
+      ; out-polled = λ s post. refl
+      ; name-set = λ s n. refl
+      ; name-woken = λ s a. refl
+      ; name-pushed = λ s f. refl
+      ; name-polled = λ s post. refl
+      ; known-set = λ s n b e. e
+      ; known-woken = λ s a b e. e
+      ; known-pushed = λ s f b e.
+          ap (λ n. ltb b n) (length-cond (full (slots-of s)) (slots-of s) (s .group .table .head) (Occupied f)) ∙ e
+      ; known-polled = λ s post b e. ap (λ n. ltb b n) (poll-fair s post .long) ∙ e
+      ; occupied-known = λ s a e. lt-ltb a (length (slots-of s)) (occupied-within (slots-of s) a e)
+      }
+
+  length-inside : (s : Bounded F) → length (inside s) ≡ len (slots-of s)
+  unfolding inside
+  length-inside s = length-map (elements s) bearing ∙ length-held (slots-of s)
+
+  ticket-laws : Ticket-laws (kind acts) bearing bears Inv inside elements how-many
+  unfolding Inv inside
+  ticket-laws = record
+      { keeps-set = λ s n i. i
+      ; keeps-woken = λ s a i. i
+      ; keeps-pushed = λ s f i. push-chained bearing s f i (full (slots-of s)) refl
+      ; keeps-polled = λ s post i. poll-fair s post .chained i
+      ; inside-set = λ s n. refl
+      ; inside-woken = λ s a. refl
+      ; inside-pushed = λ s f test i.
+          omega (arith, count-inside bearing test (slots-of s), count-inside bearing test (inserted (s .group .table) f .slots), push-counts bearing s f i test (full (slots-of s)) refl)
+      ; inside-polled = λ s post test i.
+          omega (arith, count-inside bearing test (slots-of s), count-inside bearing test (polled acts post (s .group) .group .table .slots), poll-fair s post .yields test)
+      ; none-inside = λ s post i.
+          ( λ e. empty-none acts bearing bears post (λ f d. keeps f post d) (λ f x d. gives f post x d) (s .group) (sym (length-inside s) ∙ ap length e)
+          , λ e. nil-from-length (inside s) (length-inside s ∙ none-empty acts bearing bears post (λ f d. keeps f post d) (λ f x d. gives f post x d) (s .group) e)
+          )
+      ; counts = λ s i. sym (length-inside s)
+      ; sizes = λ s i. sym (length-held (slots-of s)) ∙ size-length (elements s)
+      }
+
+  -- the promise over every run of a bounded set
+  pub bounded-promises : (name : ℕ) (slots : List (Slot F)) (records : List WakeRecord)
+      → Promises (step acts) (made name slots records) bearing bears elements how-many
+  unfolding Inv inside
+  bounded-promises name slots records =
+      let n : ℕ = capacity-of slots records in
+      promises (kind acts) bearing bears Inv inside elements how-many token-laws ticket-laws (made name slots records) refl
+      (fresh-chained F n)
+      (ap (λ fs. map bearing fs) (fresh-held (fresh-slots n) (fresh-len F n)))
