@@ -73,7 +73,7 @@ marks-more marks h is m lt i =
     (λ ne. getD-set-other marks h i true false ne ∙ m i ∙ sym (ap (λ b. b || member i is) (ne-eqb i h ne)))
     (cases-eq i h)
 
-distinct-parts : (h : ℕ) (is : List ℕ) → distinct (h ∷ is) ≡ true → (member h is ≡ false) × (distinct is ≡ true)
+pub distinct-parts : (h : ℕ) (is : List ℕ) → distinct (h ∷ is) ≡ true → (member h is ≡ false) × (distinct is ≡ true)
 distinct-parts h is d =
     let p : (not (member h is) ≡ true) × (distinct is ≡ true) = and-parts (not (member h is)) (distinct is) d in
     (not-true (member h is) (p .0), p .1)

@@ -6,6 +6,7 @@ use mathlib.Core.Bool.{Bool, true, false, cond, _&&_}
 use mathlib.Core.List.{List, [], _∷_, _++_}
 use mathlib.Core.Path.{_≡_, refl, sym, ap, subst, _∙_}
 use native.Mathlib.Omega.{arith}
+use Rattle.runs.proofs.KeptRuns.{kept-step, kept-run}
 use Rattle.runs.proofs.TokenRuns.{tokens-even, tokens-end, tokens-owed, tokens-welcome}
 use Rattle.runs.specs.Calls.{Call, push, poll, hand, clone, wake, wake-by-ref, drop, may-end, ask, Entry, entry, reached, log}
 use Rattle.runs.specs.Kinds.{Kind, step}
@@ -43,30 +44,9 @@ module _ {S P Q T O X E : Type 0} (k : Kind S P Q T O) (bearing : P → X) (bear
     (laws : Ticket-laws k bearing bears Inv inside elements len) where
 
   -- a token call that is refused or not leaves what is inside
-  keeps-if : (s s′ : S) (o : Option Fault) → Inv s → Inv s′ → Inv (leaves o s s′)
-  keeps-if s s′ None i j = j
-  keeps-if s s′ (Some f) i j = i
-
   same-if : (s s′ : S) (o : Option Fault) → inside s′ ≡ inside s → inside (leaves o s s′) ≡ inside s
   same-if s s′ None e = e
   same-if s s′ (Some f) e = refl
-
-  inv-step : (s : S) (c : Call P Q) → Inv s → Inv (step k s c .0)
-  inv-step s (push p) i = laws .keeps-pushed s p i
-  inv-step s (poll post) i = laws .keeps-polled s post i
-  inv-step s (hand a) i = keeps-if s (one-more (k .tokened) s) (hand-fault (k .tokened) s a) i (laws .keeps-set s (k .tokened .out s + 1) i)
-  inv-step s (clone t) i = keeps-if s (one-more (k .tokened) s) (clone-fault (k .tokened) s t) i (laws .keeps-set s (k .tokened .out s + 1) i)
-  inv-step s (wake t) i =
-      let w = k .tokened .woken s (t .address) in
-      keeps-if s (one-less (k .tokened) w) (spend-fault (k .tokened) s t) i (laws .keeps-set w _ (laws .keeps-woken s (t .address) i))
-  inv-step s (wake-by-ref t) i = keeps-if s (k .tokened .woken s (t .address)) (spend-fault (k .tokened) s t) i (laws .keeps-woken s (t .address) i)
-  inv-step s (drop t) i = keeps-if s (one-less (k .tokened) s) (spend-fault (k .tokened) s t) i (laws .keeps-set s _ i)
-  inv-step s may-end i = i
-  inv-step s (ask q) i = i
-
-  pub inv-run : (s : S) (cs : List (Call P Q)) → Inv s → Inv (reached (step k) s cs)
-  inv-run s [] i = i
-  inv-run s (c ∷ cs) i = inv-run (step k s c .0) cs (inv-step s c i)
 
   module _ (test : X → Bool) where
     quiet : (s s′ : S) → inside s′ ≡ inside s → countBy test (inside s) + 0 ≡ countBy test (inside s′) + 0
@@ -94,7 +74,7 @@ module _ {S P Q T O X E : Type 0} (k : Kind S P Q T O) (bearing : P → X) (bear
         let e : Entry P Q T O = entry (step k) s c in
         let a = sumBy-append (λ x. cond (test x) 1 0) (accepts bearing bears e) (accepted bearing bears (log (step k) (step k s c .0) cs)) in
         let y = sumBy-append (λ x. cond (test x) 1 0) (yields bearing bears e) (yielded bearing bears (log (step k) (step k s c .0) cs)) in
-        omega (arith, a, y, conserve-step s c i, conserve (step k s c .0) cs (inv-step s c i))
+        omega (arith, a, y, conserve-step s c i, conserve (step k s c .0) cs (kept-step k Inv (laws .keeps) s c i))
 
 -- the promise over every run, for every kind of set that has the laws
 module _ {S P Q T O E : Type 0} (k : Kind S P Q T O) (bearing : P → ℕ × ℕ) (bears : O → ℕ × ℕ) (Inv : S → Type 0) (inside : S → List (ℕ × ℕ)) (elements : S → List E) (len : Q)
@@ -109,7 +89,7 @@ module _ {S P Q T O E : Type 0} (k : Kind S P Q T O) (bearing : P → ℕ × ℕ
       omega (arith, e, z)
 
   inv : (cs : List (Call P Q)) → Inv (reached (step k) fresh cs)
-  inv cs = inv-run k bearing bears Inv inside elements len laws fresh cs kept
+  inv cs = kept-run k Inv (laws .keeps) fresh cs kept
 
   pub promises : Promises (step k) fresh bearing bears elements len
   promises = record

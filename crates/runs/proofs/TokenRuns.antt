@@ -39,7 +39,7 @@ module _ {S : Type 0} (k : Tokened S) where
     pub some : 0 < k .out s
     pub there : k .known s (t .address) ≡ true
 
-  passes : (s : S) (t : Waker) (r : Option Fault) → token-fault k s t r ≡ None → Passes s t × (r ≡ None)
+  pub passes : (s : S) (t : Waker) (r : Option Fault) → token-fault k s t r ≡ None → Passes s t × (r ≡ None)
   passes s t r e =
       let a = unless-none (eqb (t .name) (k .name s)) (OtherName (t .name)) (unless (some-out (k .out s)) NoTokenOut (unless (k .known s (t .address)) (NoSuchSlot (t .address)) r)) e in
       let b = unless-none (some-out (k .out s)) NoTokenOut (unless (k .known s (t .address)) (NoSuchSlot (t .address)) r) (a .1) in

@@ -30,13 +30,17 @@ module _ {S P Q T O : Type 0} (k : Kind S P Q T O) where
     pub known-polled : (s : S) (post : List ℕ) (b : ℕ) → k .tokened .known s b ≡ true → k .tokened .known (k .polled s post) b ≡ true
     pub occupied-known : (s : S) (a : ℕ) → k .tokened .occupied s a ≡ true → k .tokened .known s a ≡ true
 
+  -- What it keeps: a fact that no call breaks.
+  pub record Keeps (Inv : S → Type 0) : Type 0 where
+    pub set : (s : S) (n : ℕ) → Inv s → Inv (k .tokened .with-out s n)
+    pub woken : (s : S) (a : ℕ) → Inv s → Inv (k .tokened .woken s a)
+    pub pushed : (s : S) (p : P) → Inv s → Inv (k .pushed s p)
+    pub polled : (s : S) (post : List ℕ) → Inv s → Inv (k .polled s post)
+
   -- Of its tickets: what is inside it, by labels, is what it was and what a push adds, and less what a poll yields, as
   -- often as any test counts them. A poll answers Ready(None) exactly if nothing is inside. Inv is what it keeps.
   pub record Ticket-laws {X E : Type 0} (bearing : P → X) (bears : O → X) (Inv : S → Type 0) (inside : S → List X) (elements : S → List E) (len : Q) : Type 0 where
-    pub keeps-set : (s : S) (n : ℕ) → Inv s → Inv (k .tokened .with-out s n)
-    pub keeps-woken : (s : S) (a : ℕ) → Inv s → Inv (k .tokened .woken s a)
-    pub keeps-pushed : (s : S) (p : P) → Inv s → Inv (k .pushed s p)
-    pub keeps-polled : (s : S) (post : List ℕ) → Inv s → Inv (k .polled s post)
+    pub keeps : Keeps Inv
     pub inside-set : (s : S) (n : ℕ) → inside (k .tokened .with-out s n) ≡ inside s
     pub inside-woken : (s : S) (a : ℕ) → inside (k .tokened .woken s a) ≡ inside s
     pub inside-pushed : (s : S) (p : P) (test : X → Bool) → Inv s
@@ -46,3 +50,12 @@ module _ {S P Q T O : Type 0} (k : Kind S P Q T O) where
     pub none-inside : (s : S) (post : List ℕ) → Inv s → (inside s ≡ []) ↔ (k .yields s post .poll ≡ Ready None)
     pub counts : (s : S) → Inv s → k .number s len ≡ length (inside s)
     pub sizes : (s : S) → Inv s → k .number s len ≡ size (elements s)
+
+  -- Of its wakes: setting the count twice is setting it once, and to what it is changes nothing. A wake leaves its slot in
+  -- the queue once. Inv is what it keeps.
+  pub record Wake-laws (Inv : S → Type 0) (queued : S → ℕ → ℕ) : Type 0 where
+    pub set-twice : (s : S) (n m : ℕ) → k .tokened .with-out (k .tokened .with-out s n) m ≡ k .tokened .with-out s m
+    pub set-same : (s : S) → k .tokened .with-out s (k .tokened .out s) ≡ s
+    pub queued-set : (s : S) (n a : ℕ) → queued (k .tokened .with-out s n) a ≡ queued s a
+    pub queued-woken : (s : S) (a : ℕ) → Inv s → queued (k .tokened .woken s a) a ≡ 1
+    pub keeps : Keeps Inv

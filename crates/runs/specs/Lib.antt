@@ -5,3 +5,4 @@ pub mod Promises
 pub mod Size
 pub mod Tallies
 pub mod Tokens
+pub mod Wakers

@@ -6,22 +6,28 @@ use mathlib.Core.Bool.{Bool, true, false, cond, not}
 use mathlib.Core.List.{List, [], _∷_, map}
 use mathlib.Core.Path.{_≡_, refl, sym, ap, subst, _∙_}
 use native.Mathlib.Omega.{arith}
+use Rattle.lists.proofs.QueueFacts.{distinct-enqueued, distinct-rest, member-enqueued, count-one}
+use Rattle.lists.specs.Queues.{enqueued, first}
+use Rattle.lists.specs.Walks.{distinct}
 use Rattle.runs.proofs.TicketRuns.{promises}
-use Rattle.runs.specs.Laws.{Token-laws, Ticket-laws}
+use Rattle.runs.proofs.WakerRuns.{waker-laws}
+use Rattle.runs.specs.Laws.{Token-laws, Ticket-laws, Wake-laws}
 use Rattle.runs.specs.Promises.{Promises}
 use Rattle.runs.specs.Size.{size, distance-to-end}
 use Rattle.runs.specs.Tallies.{if-ok}
-use Rattle.sets.proofs.FairPolls.{Fair, fair, weight, weigh, weigh-set, count-inside, length-held, none-empty, empty-none}
-use Rattle.sets.specs.Bounded.{Bounded, Question, how-many, how-many-can-be, made, kind, step, slots-of, elements, held-in, push-answer, capacity-of}
-use Rattle.sets.specs.Group.{Group, joined, polled}
+use Rattle.runs.specs.Wakers.{Waker-laws}
+use Rattle.sets.proofs.FairPolls.{Fair, fair, weight, weigh, weigh-set, count-inside, length-held, none-empty, empty-none, polling-keeps}
+use Rattle.sets.specs.Bounded.{Bounded, Question, how-many, how-many-can-be, made, kind, step, slots-of, elements, held-in, push-answer, capacity-of, queued}
+use Rattle.sets.specs.Group.{Group, joined, polled, polling, registered, found-if, finishing, vacated, turn, turn-at, turn-from, dequeued, woken-if}
+use Rattle.sets.specs.declared.turn.Found.{Found}
 use Rattle.slots.proofs.Chained.{Inserts, insert-chained, fresh-chained, fresh-len, occupied-within}
 use Rattle.slots.proofs.HeldParts.{inserted-full, inserted-open}
-use Rattle.slots.specs.Table.{Table, len, full, inserted, occupied-at, vacant, Chained, fresh-slots}
+use Rattle.slots.specs.Table.{Table, len, full, inserted, task-at, occupied-at, vacant, Chained, fresh-slots}
 use Rattle.slots.specs.declared.slot.Slot.{Slot}
 use Rattle.slots.specs.declared.slot.Slot.the-variants.{Occupied, NextFree}
 use Rattle.std.proofs.shelf.Lists.{length-set, length-map, nil-from-length}
 use Rattle.std.proofs.shelf.Sums.{sumBy-cons}
-use Rattle.std.proofs.shelf.Tests.{both-ways, lt-ltb, cond-true, cond-false}
+use Rattle.std.proofs.shelf.Tests.{both-ways, lt-ltb, cond-both, cond-true, cond-false}
 use Rattle.std.specs.declared.option.Option.{Option}
 use Rattle.std.specs.declared.option.Option.the-variants.{Some, None}
 use Rattle.std.specs.declared.result.Result.{Result}
@@ -30,7 +36,9 @@ use Rattle.std.specs.shelf.Lists.{countBy}
 use Rattle.tasks.specs.Acts.{Acts}
 use Rattle.tasks.specs.declared.fault.Fault.the-variants.{NoVacantSlot}
 use Rattle.tasks.specs.declared.fault.Refused.{Refused}
+use Rattle.tasks.specs.declared.poll.Poll.{Poll}
 use Rattle.tasks.specs.declared.poll.Poll.the-variants.{Ready, Pending}
+use Rattle.wakes.specs.Wakes.{Wakes}
 use Rattle.wakes.specs.declared.wake_record.WakeRecord.{WakeRecord}
 
 size-length : {X : Type 0} (xs : List X) → length xs ≡ size xs
@@ -111,10 +119,12 @@ module _ {F O : Type 0} (acts : Acts F O) (bearing : F → ℕ × ℕ) (bears : 
   ticket-laws : Ticket-laws (kind acts) bearing bears Inv inside elements how-many
   unfolding Inv inside
   ticket-laws = record
-      { keeps-set = λ s n i. i
-      ; keeps-woken = λ s a i. i
-      ; keeps-pushed = λ s f i. push-chained bearing s f i (full (slots-of s)) refl
-      ; keeps-polled = λ s post i. poll-fair s post .chained i
+      { keeps = record
+          { set = λ s n i. i
+          ; woken = λ s a i. i
+          ; pushed = λ s f i. push-chained bearing s f i (full (slots-of s)) refl
+          ; polled = λ s post i. poll-fair s post .chained i
+          }
       ; inside-set = λ s n. refl
       ; inside-woken = λ s a. refl
       ; inside-pushed = λ s f test i.
@@ -129,6 +139,51 @@ module _ {F O : Type 0} (acts : Acts F O) (bearing : F → ℕ × ℕ) (bears : 
       ; sizes = λ s i. sym (length-held (slots-of s)) ∙ size-length (elements s)
       }
 
+  -- no slot waits twice
+  Once : Bounded F → Type 0
+  Once s = distinct (s .group .wakes .waiting) ≡ true
+
+  self-once : (b : Bool) (w : Wakes) (i : ℕ) → distinct (w .waiting) ≡ true → distinct (woken-if b w i .waiting) ≡ true
+  self-once true w i d = distinct-enqueued (w .waiting) i d
+  self-once false w i d = d
+
+  at-once : (post : List ℕ) (g : Group F) (i : ℕ) (o : Option F) → distinct (g .wakes .waiting) ≡ true → distinct (turn-at acts post g i o .1 .wakes .waiting) ≡ true
+  at-once post g i None d = d
+  at-once post g i (Some f) d = self-once (acts .wakes f post) (g .wakes) i d
+
+  from-once : (post : List ℕ) (g : Group F) (o : Option ℕ) → distinct (g .wakes .waiting) ≡ true → distinct (turn-from acts post g o .1 .wakes .waiting) ≡ true
+  from-once post g None d = d
+  from-once post g (Some i) d = at-once post (dequeued acts post g) i (task-at (g .table .slots) i) (distinct-rest (g .wakes .waiting) d)
+
+  vacated-once : (post : List ℕ) (g : Group F) (p : Poll (Option (Found O))) → distinct (g .wakes .waiting) ≡ true → distinct (vacated acts post g p .wakes .waiting) ≡ true
+  vacated-once post g Pending d = d
+  vacated-once post g (Ready None) d = d
+  vacated-once post g (Ready (Some f)) d = d
+
+  turn-once : (post : List ℕ) (g : Group F) → distinct (g .wakes .waiting) ≡ true → distinct (turn acts post g .1 .wakes .waiting) ≡ true
+  turn-once post g d = from-once post g (first (g .wakes .waiting)) d
+
+  polled-once : (post : List ℕ) (g : Group F) (b : Bool) → distinct (g .wakes .waiting) ≡ true → distinct (finishing acts post (found-if acts post b g) .group .wakes .waiting) ≡ true
+  polled-once post g true d = d
+  polled-once post g false d =
+      vacated-once post (polling acts post 61 0 0 (registered acts post g) .group) (polling acts post 61 0 0 (registered acts post g) .answer .poll)
+      (polling-keeps acts post (λ h. distinct (h .wakes .waiting) ≡ true) (turn-once post) 61 0 0 (registered acts post g) d)
+
+  wake-laws : Wake-laws (kind acts) Once queued
+  unfolding Once
+  wake-laws = record
+      { set-twice = λ s n m. refl
+      ; set-same = λ s. refl
+      ; queued-set = λ s n a. refl
+      ; queued-woken = λ s a d. count-one a (enqueued (s .group .wakes .waiting) a) (distinct-enqueued (s .group .wakes .waiting) a d) (member-enqueued (s .group .wakes .waiting) a)
+      ; keeps = record
+          { set = λ s n d. d
+          ; woken = λ s a d. distinct-enqueued (s .group .wakes .waiting) a d
+          ; pushed = λ s f d. cond-both (full (slots-of s)) (s .group .wakes .waiting) (enqueued (s .group .wakes .waiting) (s .group .table .head)) (λ w. distinct w ≡ true) (λ e. d) (λ e. distinct-enqueued (s .group .wakes .waiting) (s .group .table .head) d)
+          ; polled = λ s post d. polled-once post (s .group) (eqb (len (slots-of s)) 0) d
+          }
+      }
+
   -- the promise over every run of a bounded set
   pub bounded-promises : (name : ℕ) (slots : List (Slot F)) (records : List WakeRecord)
       → Promises (step acts) (made name slots records) bearing bears elements how-many
@@ -138,3 +193,11 @@ module _ {F O : Type 0} (acts : Acts F O) (bearing : F → ℕ × ℕ) (bears : 
       promises (kind acts) bearing bears Inv inside elements how-many token-laws ticket-laws (made name slots records) refl
       (fresh-chained F n)
       (ap (λ fs. map bearing fs) (fresh-held (fresh-slots n) (fresh-len F n)))
+
+  -- and the laws of its wakers
+  pub bounded-wakers : (name : ℕ) (slots : List (Slot F)) (records : List WakeRecord)
+      → Waker-laws (step acts) (made name slots records) queued how-many
+  unfolding Inv Once
+  bounded-wakers name slots records =
+      waker-laws (kind acts) token-laws Once queued wake-laws bearing bears Inv inside elements how-many ticket-laws (made name slots records) refl
+      (fresh-chained F (capacity-of slots records))

@@ -267,3 +267,17 @@ module _ {F O X : Type 0} (acts : Acts F O) (bearing : F → X) (bears : O → X
   pub empty-none : (g : Group F) → len (g .table .slots) ≡ 0 → polled acts post g .answer .poll ≡ Ready None
   empty-none g e =
       ap (λ b. finishing acts post (found-if acts post b g) .answer .poll) (eq-eqb (len (g .table .slots)) 0 e)
+
+-- what every turn keeps, a poll keeps
+module _ {F O : Type 0} (acts : Acts F O) (post : List ℕ) (Kept : Group F → Type 0) (keeps : (g : Group F) → Kept g → Kept (turn acts post g .1)) where
+  step-keeps : (h : Group F) (go : Group F → ℕ → Outcome F (Found O)) (n t : ℕ) (r : Turn O) → Kept h
+      → ((k : Group F) (m : ℕ) → Kept k → Kept (go k m .group)) → Kept (after-turn acts post go n t r h .group)
+  step-keeps h go n t Idle i rest = i
+  step-keeps h go n t (Served m) i rest = rest h (n + m) i
+  step-keeps h go n t (Gave m j x) i rest = i
+
+  pub polling-keeps : (left n t : ℕ) (g : Group F) → Kept g → Kept (polling acts post left n t g .group)
+  unfolding polling
+  polling-keeps zero n t g i = i
+  polling-keeps (suc left) n t g i =
+      step-keeps (turn acts post g .1) (λ h more. polling acts post left more (t + 1) h) n t (turn acts post g .0) (keeps g i) (λ k m j. polling-keeps left m (t + 1) k j)

@@ -1,6 +1,6 @@
 -- The bounded unordered set by its rules.
 use Prim.Native.Nat.{ℕ, min}
-use lib.Dec.{ltb}
+use lib.Dec.{eqb, ltb}
 use lib.ListN.{length, drop}
 use mathlib.Core.Bool.{cond}
 use mathlib.Core.List.{List, [], _∷_}
@@ -16,6 +16,7 @@ use Rattle.slots.specs.declared.slot.Slot.the-variants.{Occupied, NextFree}
 use Rattle.std.specs.declared.option.Option.{Option}
 use Rattle.std.specs.declared.result.Result.{Result}
 use Rattle.std.specs.declared.result.Result.the-variants.{Ok, Err}
+use Rattle.std.specs.shelf.Lists.{countBy}
 use Rattle.tasks.specs.Acts.{Acts}
 use Rattle.tasks.specs.declared.fault.Fault.the-variants.{NoVacantSlot}
 use Rattle.tasks.specs.declared.fault.Refused.{Refused}
@@ -87,6 +88,10 @@ held-in (NextFree n ∷ slots) = held-in slots
 
 abbrev pub elements : {F : Type 0} → Bounded F → List F
 elements s = held-in (slots-of s)
+
+-- How often a slot waits in the queue.
+abbrev pub queued : {F : Type 0} → Bounded F → ℕ → ℕ
+queued s a = countBy (eqb a) (s .group .wakes .waiting)
 
 module _ {F O : Type 0} (acts : Acts F O) where
   abbrev pub kind : Kind (Bounded F) F Question F O
