@@ -11,15 +11,17 @@ use Rattle.lists.specs.Queues.{enqueued, first}
 use Rattle.lists.specs.Walks.{distinct}
 use Rattle.runs.proofs.TicketRuns.{promises}
 use Rattle.runs.proofs.WakerRuns.{waker-laws}
+use Rattle.runs.specs.Calls.{reached}
 use Rattle.runs.specs.Laws.{Token-laws, Ticket-laws, Wake-laws}
 use Rattle.runs.specs.Promises.{Promises}
 use Rattle.runs.specs.Size.{size, distance-to-end}
 use Rattle.runs.specs.Tallies.{if-ok}
 use Rattle.runs.specs.Wakers.{Waker-laws}
-use Rattle.sets.proofs.FairPolls.{Fair, fair, weight, weigh, weigh-set, count-inside, length-held, none-empty, empty-none, polling-keeps}
-use Rattle.sets.specs.Bounded.{Bounded, Question, how-many, how-many-can-be, made, kind, step, slots-of, elements, held-in, push-answer, capacity-of, queued}
-use Rattle.sets.specs.Group.{Group, joined, polled, polling, registered, found-if, finishing, vacated, turn, turn-at, turn-from, dequeued, woken-if}
+use Rattle.sets.proofs.FairPolls.{Fair, fair, weight, weigh, weigh-set, count-inside, length-held, none-empty, empty-none, ready-vacated, polling-keeps}
+use Rattle.sets.specs.Bounded.{Bounded, Question, how-many, how-many-can-be, made, kind, step, slots-of, elements, held-in, push-answer, capacity-of, queued, Never-again}
+use Rattle.sets.specs.Group.{Group, joined, polled, polling, registered, found-if, finishing, output-of, vacated, turn, turn-at, turn-from, dequeued, woken-if}
 use Rattle.sets.specs.declared.turn.Found.{Found}
+use Rattle.sets.specs.declared.turn.Turn.the-variants.{Served}
 use Rattle.slots.proofs.Chained.{Inserts, insert-chained, fresh-chained, fresh-len, occupied-within}
 use Rattle.slots.proofs.HeldParts.{inserted-full, inserted-open}
 use Rattle.slots.specs.Table.{Table, len, full, inserted, task-at, occupied-at, vacant, Chained, fresh-slots}
@@ -201,3 +203,30 @@ module _ {F O : Type 0} (acts : Acts F O) (bearing : F → ℕ × ℕ) (bears : 
   bounded-wakers name slots records =
       waker-laws (kind acts) token-laws Once queued wake-laws bearing bears Inv inside elements how-many ticket-laws (made name slots records) refl
       (fresh-chained F (capacity-of slots records))
+
+  -- and a future that is ready is never polled again
+  passed-by : (g : Group F) (post : List ℕ) (i : ℕ) (o : Option ℕ) → o ≡ Some i → task-at (g .table .slots) i ≡ None
+      → turn-from acts post g o ≡ (Served 0, dequeued acts post g)
+  passed-by g post i o e none =
+      ap (λ p. turn-from acts post g p) e ∙ ap (λ f. turn-at acts post (dequeued acts post g) i f) none
+
+  pub bounded-never-again : (name : ℕ) (slots : List (Slot F)) (records : List WakeRecord) → Never-again acts (made name slots records)
+  bounded-never-again name slots records = record
+      { ready-vacates = λ cs post f e.
+          let s : Bounded F = reached (step acts) (made name slots records) cs in
+          ( ap (λ p. output-of acts post p) e
+          , ready-vacated acts bearing bears post (λ g d. keeps g post d) (λ g x d. gives g post x d) (s .group) f e
+          )
+      ; vacant-passed = λ g post i e none. passed-by g post i (first (g .wakes .waiting)) e none
+      }
+
+  -- of every set that is as it was made
+  module _ (s : Bounded F) (name : ℕ) (slots : List (Slot F)) (records : List WakeRecord) (fresh : s ≡ made name slots records) where
+    pub promises-at : Promises (step acts) s bearing bears elements how-many
+    promises-at = subst (λ x. Promises (step acts) x bearing bears elements how-many) (sym fresh) (bounded-promises name slots records)
+
+    pub wakers-at : Waker-laws (step acts) s queued how-many
+    wakers-at = subst (λ x. Waker-laws (step acts) x queued how-many) (sym fresh) (bounded-wakers name slots records)
+
+    pub never-again-at : Never-again acts s
+    never-again-at = subst (λ x. Never-again acts x) (sym fresh) (bounded-never-again name slots records)

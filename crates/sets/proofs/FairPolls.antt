@@ -268,6 +268,32 @@ module _ {F O X : Type 0} (acts : Acts F O) (bearing : F → X) (bears : O → X
   empty-none g e =
       ap (λ b. finishing acts post (found-if acts post b g) .answer .poll) (eq-eqb (len (g .table .slots)) 0 e)
 
+  -- the slot of the one that is ready is vacated
+  vacated-slot : (g h : Group F) (p : Poll (Option (Found O))) (f : Found O) → Polled-well g h p → p ≡ Ready (Some f) → task-at (vacated acts post h p .table .slots) (f .slot) ≡ None
+  unfolding Poll-did Done
+  vacated-slot g h Pending f w e = let z : _≡_ {A = ℕ} 0 1 = cc in absurd (omega arith)
+  vacated-slot g h (Ready None) f w e = let z : _≡_ {A = ℕ} 0 1 = cc in absurd (omega arith)
+  vacated-slot g h (Ready (Some d)) f w e =
+      let same : d ≡ f = cc in
+      let there : occupied-at (h .table .slots) (d .slot) ≡ true = w .outcome .0 in
+      let lt : d .slot < length (h .table .slots) = occupied-within (h .table .slots) (d .slot) there in
+      let free : Slot F = NextFree (h .table .head) in
+      let long : d .slot < length (set (h .table .slots) (d .slot) free) = subst (λ n. d .slot < n) (sym (length-set (h .table .slots) (d .slot) free)) lt in
+      ap (λ (x : Found O). task-at (removed (h .table) (d .slot) .slots) (x .slot)) (sym same)
+      ∙ ap (λ (t : Table F). task-at (t .slots) (d .slot)) (removed-there (h .table) (d .slot) there)
+      ∙ ap task-in (nth-getD (set (h .table .slots) (d .slot) free) (d .slot) free long)
+      ∙ ap (λ s. task-in (Some s)) (getD-set-same (h .table .slots) (d .slot) free free lt)
+
+  vacated-if : (b : Bool) (g : Group F) (f : Found O) → found-if acts post b g .answer .poll ≡ Ready (Some f)
+      → task-at (finishing acts post (found-if acts post b g) .group .table .slots) (f .slot) ≡ None
+  vacated-if true g f e = let z : _≡_ {A = ℕ} 0 1 = cc in absurd (omega arith)
+  vacated-if false g f e =
+      vacated-slot (registered acts post g) (polling acts post 61 0 0 (registered acts post g) .group) (polling acts post 61 0 0 (registered acts post g) .answer .poll) f
+      (polling-well 61 0 0 (registered acts post g)) e
+
+  pub ready-vacated : (g : Group F) (f : Found O) → found acts post g .answer .poll ≡ Ready (Some f) → task-at (polled acts post g .group .table .slots) (f .slot) ≡ None
+  ready-vacated g f e = vacated-if (eqb (len (g .table .slots)) 0) g f e
+
 -- what every turn keeps, a poll keeps
 module _ {F O : Type 0} (acts : Acts F O) (post : List ℕ) (Kept : Group F → Type 0) (keeps : (g : Group F) → Kept g → Kept (turn acts post g .1)) where
   step-keeps : (h : Group F) (go : Group F → ℕ → Outcome F (Found O)) (n t : ℕ) (r : Turn O) → Kept h

@@ -4,22 +4,28 @@ use lib.Dec.{eqb, ltb}
 use lib.ListN.{length, drop}
 use mathlib.Core.Bool.{cond}
 use mathlib.Core.List.{List, [], _∷_}
-use Rattle.runs.specs.Calls.{Step}
+use mathlib.Core.Path.{_≡_}
+use Rattle.lists.specs.Queues.{first}
+use Rattle.runs.specs.Calls.{Call, poll, Step, reached}
 use Rattle.runs.specs.Kinds.{Kind}
 use Rattle.runs.specs.Kinds as kinds
 use Rattle.runs.specs.Tokens.{Tokened}
-use Rattle.sets.specs.Group.{Group, joined, polled, woken-at}
+use Rattle.sets.specs.Group.{Group, joined, found, polled, turn, woken-at}
 use Rattle.sets.specs.Group as group
-use Rattle.slots.specs.Table.{len, full, occupied-at}
+use Rattle.sets.specs.declared.turn.Found.{Found}
+use Rattle.sets.specs.declared.turn.Turn.the-variants.{Served}
+use Rattle.slots.specs.Table.{len, full, task-at, occupied-at}
 use Rattle.slots.specs.declared.slot.Slot.{Slot}
 use Rattle.slots.specs.declared.slot.Slot.the-variants.{Occupied, NextFree}
 use Rattle.std.specs.declared.option.Option.{Option}
+use Rattle.std.specs.declared.option.Option.the-variants.{Some, None}
 use Rattle.std.specs.declared.result.Result.{Result}
 use Rattle.std.specs.declared.result.Result.the-variants.{Ok, Err}
 use Rattle.std.specs.shelf.Lists.{countBy}
 use Rattle.tasks.specs.Acts.{Acts}
 use Rattle.tasks.specs.declared.fault.Fault.the-variants.{NoVacantSlot}
 use Rattle.tasks.specs.declared.fault.Refused.{Refused}
+use Rattle.tasks.specs.declared.poll.Poll.the-variants.{Ready}
 use Rattle.tasks.specs.declared.poll.Polled.{Polled}
 use Rattle.wakes.specs.Wakes as wakes
 use Rattle.wakes.specs.declared.wake_record.WakeRecord.{WakeRecord}
@@ -106,3 +112,13 @@ module _ {F O : Type 0} (acts : Acts F O) where
 
   abbrev pub step : Step (Bounded F) F Question F O
   step = kinds.step kind
+
+  -- A future that is ready is never polled again: its slot is vacant after the poll that yields its output, and a turn
+  -- polls nothing at a vacant slot.
+  pub record Never-again (fresh : Bounded F) : Type 0 where
+    pub ready-vacates : (calls : List (Call F Question)) (post : List ℕ) (f : Found O)
+        → found acts post (reached step fresh calls .group) .answer .poll ≡ Ready (Some f)
+        → (step (reached step fresh calls) (poll post) .1 .poll ≡ Ready (Some (f .answer)))
+        × (task-at (slots-of (step (reached step fresh calls) (poll post) .0)) (f .slot) ≡ None)
+    pub vacant-passed : (g : Group F) (post : List ℕ) (i : ℕ) → first (g .wakes .waiting) ≡ Some i → task-at (g .table .slots) i ≡ None
+        → turn acts post g ≡ (Served 0, record { table = g .table; wakes = wakes.popped (g .wakes) })

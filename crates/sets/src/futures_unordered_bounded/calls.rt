@@ -2,8 +2,10 @@ ghost use Prim.Native.Nat.{_<_};
 ghost use lib.ListN.{length};
 ghost use mathlib.Core.Path.{_≡_};
 ghost use Rattle.runs.specs.Calls.{push as Push, poll as Poll-call, hand as Hand, clone as Clone-call, wake as Wake, wake-by-ref as Wake-by-ref, drop as Drop-call, may-end as May-end, ask};
+ghost use Rattle.runs.specs.Promises.{Promises};
 ghost use Rattle.runs.specs.Tokens.{spend-fault};
-ghost use Rattle.sets.specs.Bounded.{made, step, tokened, slots-of, how-many, how-many-can-be};
+ghost use Rattle.runs.specs.Wakers.{Waker-laws};
+ghost use Rattle.sets.specs.Bounded.{made, step, tokened, slots-of, elements, queued, how-many, how-many-can-be, Never-again};
 ghost use Rattle.sets.specs.BoundedSet.{set-of, Taken-apart};
 ghost use Rattle.std.specs.Options.{Cases as BySome};
 use crate::futures_unordered_bounded::ending::Ending;
@@ -27,7 +29,10 @@ const MOST_SLOTS: usize = 65536;
 impl<'a, F: Future + Copy> FuturesUnorderedBounded<'a, F> {
     // An empty set of that name. Its capacity is the lesser of the two memories, and at most 65,536.
     pub fn new(name: u32, slots: &'a mut [Slot<F>], records: &'a mut [WakeRecord]) -> FuturesUnorderedBounded<'a, F>
-        ensures { λ r. ⌜ set-of r ≡ made name (now (slots .entry)) (now (records .entry)) ⌝ }
+        ensures fresh { λ r. ⌜ set-of r ≡ made name (now (slots .entry)) (now (records .entry)) ⌝ }
+        ensures promises { λ r. ⌜ Promises (step (F·Future .acts)) (set-of r) (F·Ticketed .bearing) (Output·Ticketed .bearing) elements how-many ⌝ }
+        ensures wakers { λ r. ⌜ Waker-laws (step (F·Future .acts)) (set-of r) queued how-many ⌝ }
+        ensures never_again { λ r. ⌜ Never-again (F·Future .acts) (set-of r) ⌝ }
     {
         let capacity = slots.len().min(records.len()).min(MOST_SLOTS);
         let group = TaskGroup::new(slots, records, 0, capacity);
