@@ -122,6 +122,17 @@ impl<'a, F: Copy> TaskGroup<'a, F> {
         Memory { slots, records }
     }
 
+    // The memory, whatever it holds.
+    pub fn into_memory(self) -> Memory<'a, F>
+        ensures slots { λ r. ⌜ now (r .slots) ≡ now (self .entry .tasks .slots) ⌝ }
+        ensures records { λ r. ⌜ now (r .records) ≡ now (self .entry .shared .records) ⌝ }
+    {
+        let TaskGroup { tasks, shared } = self;
+        let slots = tasks.take_apart();
+        let records = shared.take_apart();
+        Memory { slots, records }
+    }
+
     // Takes one slot from the queue, and polls its task.
     fn turn<P: PollFn<F>>(&mut self, post: &[u64]) -> Turn<P::Answer>
         requires { ⌜ Sound (now self) ⌝ }

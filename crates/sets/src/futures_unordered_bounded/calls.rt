@@ -6,11 +6,13 @@ ghost use Rattle.runs.specs.Promises.{Promises};
 ghost use Rattle.runs.specs.Tokens.{spend-fault};
 ghost use Rattle.runs.specs.Wakers.{Waker-laws};
 ghost use Rattle.sets.specs.Bounded.{made, step, tokened, slots-of, elements, queued, how-many, how-many-can-be, Never-again};
-ghost use Rattle.sets.specs.BoundedSet.{set-of, Taken-apart};
+ghost use Rattle.sets.specs.BoundedSet.{set-of, unended, Whole, Taken-apart};
 ghost use Rattle.std.specs.Options.{Cases as BySome};
 use crate::futures_unordered_bounded::ending::Ending;
+use crate::futures_unordered_bounded::ending::Unended;
 use crate::futures_unordered_bounded::FuturesUnorderedBounded;
 use crate::group::TaskGroup;
+use crate::memory::Memory;
 use slots::slot::Slot;
 use tasks::fault::Fault;
 use tasks::fault::Refused;
@@ -180,12 +182,30 @@ impl<'a, F: Future + Copy> FuturesUnorderedBounded<'a, F> {
     pub fn take_apart(self) -> Ending<'a, F>
         ensures { λ r. ⌜ Taken-apart (set-of (self .entry)) r ⌝ }
     {
-        match self.may_end() {
-            Ok(()) => {
-                let FuturesUnorderedBounded { name: _, tokens: _, group } = self;
-                Ending::Ended(group.take_apart())
-            }
-            Err(fault) => Ending::Refused(fault, self),
+        let FuturesUnorderedBounded { name, tokens, group } = self;
+        if tokens == 0 {
+            return Ending::Ended(group.take_apart());
         }
+        Ending::Refused(Fault::TokensOut { count: tokens }, Unended { name, tokens, group })
+    }
+}
+
+impl<'a, F: Copy> Unended<'a, F> {
+    // The set that was not taken apart. What it asks is what `take_apart` ensures of the value that it hands back.
+    pub fn into_set(self) -> FuturesUnorderedBounded<'a, F>
+        requires { ⌜ Whole self ⌝ }
+        ensures { λ r. ⌜ set-of r ≡ unended (self .entry) ⌝ }
+    {
+        let Unended { name, tokens, group } = self;
+        FuturesUnorderedBounded { name, tokens, group }
+    }
+
+    // Gives the memory back with tokens out. What is left of them will be refused by any other set.
+    pub fn abandon(self) -> Memory<'a, F>
+        ensures slots { λ r. ⌜ now (r .slots) ≡ now (self .entry .group .tasks .slots) ⌝ }
+        ensures records { λ r. ⌜ now (r .records) ≡ now (self .entry .group .shared .records) ⌝ }
+    {
+        let Unended { name: _, tokens: _, group } = self;
+        group.into_memory()
     }
 }
