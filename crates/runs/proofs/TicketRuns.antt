@@ -42,7 +42,6 @@ none-counted (x ∷ xs) none =
 
 module _ {S P Q T O X E : Type 0} (k : Kind S P Q T O) (bearing : P → X) (bears : O → X) (Inv : S → Type 0) (inside : S → List X) (elements : S → List E) (len : Q)
     (laws : Ticket-laws k bearing bears Inv inside elements len) where
-
   -- a token call that is refused or not leaves what is inside
   same-if : (s s′ : S) (o : Option Fault) → inside s′ ≡ inside s → inside (leaves o s s′) ≡ inside s
   same-if s s′ None e = e
@@ -80,7 +79,6 @@ module _ {S P Q T O X E : Type 0} (k : Kind S P Q T O) (bearing : P → X) (bear
 module _ {S P Q T O E : Type 0} (k : Kind S P Q T O) (bearing : P → ℕ × ℕ) (bears : O → ℕ × ℕ) (Inv : S → Type 0) (inside : S → List (ℕ × ℕ)) (elements : S → List E) (len : Q)
     (tokens : Token-laws k) (laws : Ticket-laws k bearing bears Inv inside elements len)
     (fresh : S) (none-out : k .tokened .out fresh ≡ 0) (kept : Inv fresh) (none-in : inside fresh ≡ []) where
-
   balance : (test : ℕ × ℕ → Bool) (cs : List (Call P Q))
       → countBy test (accepted bearing bears (log (step k) fresh cs)) ≡ countBy test (inside (reached (step k) fresh cs)) + countBy test (yielded bearing bears (log (step k) fresh cs))
   balance test cs =
@@ -92,27 +90,33 @@ module _ {S P Q T O E : Type 0} (k : Kind S P Q T O) (bearing : P → ℕ × ℕ
   inv cs = kept-run k Inv (laws .keeps) fresh cs kept
 
   pub promises : Promises (step k) fresh bearing bears elements len
-  promises = record
-      { tickets = λ cs post.
-          ( λ same. laws .none-inside (reached (step k) fresh cs) post (inv cs) .0
-              (none-counted (inside (reached (step k) fresh cs)) (λ t. omega (arith, same t, balance (same-ticket t) cs)))
-          , λ ready t.
-              let nil = laws .none-inside (reached (step k) fresh cs) post (inv cs) .1 ready in
-              let z : countBy (same-ticket t) (inside (reached (step k) fresh cs)) ≡ 0 = ap (λ xs. countBy (same-ticket t) xs) nil in
-              omega (arith, z, balance (same-ticket t) cs)
-          )
-      ; numbers = λ cs.
-          let b = balance (λ x. true) cs in
-          omega (arith, b, count-all (accepted bearing bears (log (step k) fresh cs)), count-all (yielded bearing bears (log (step k) fresh cs)),
-              count-all (inside (reached (step k) fresh cs)), laws .counts (reached (step k) fresh cs) (inv cs))
-      ; sizes = λ cs. laws .sizes (reached (step k) fresh cs) (inv cs)
-      ; tokens = λ cs. (tokens-even k tokens fresh none-out cs, tokens-end k tokens fresh none-out cs)
-      ; owed = λ cs f e. tokens-owed k tokens fresh none-out cs f e
-      ; welcome = λ cs honest t a.
-          let s : S = reached (step k) fresh cs in
-          let none : spend-fault (k .tokened) s t ≡ None = tokens-welcome k tokens fresh none-out cs honest t a in
-          ( ap (λ o. isOk (answers o t (k .tokened .notices s (t .address)))) none
-          , ap (λ o. isOk (answers-lent o (k .tokened .notices s (t .address)))) none
-          , ap (λ o. isOk (answers {A = Unit {0}} o t tt)) none
-          )
-      }
+  promises = record {
+    tickets = λ cs post. (
+      λ same. laws .none-inside (reached (step k) fresh cs) post (inv cs) .0
+          (none-counted (inside (reached (step k) fresh cs)) (λ t. omega (arith, same t, balance (same-ticket t) cs))),
+      λ ready t.
+          let nil = laws .none-inside (reached (step k) fresh cs) post (inv cs) .1 ready in
+          let z : countBy (same-ticket t) (inside (reached (step k) fresh cs)) ≡ 0 = ap (λ xs. countBy (same-ticket t) xs) nil in
+          omega (arith, z, balance (same-ticket t) cs),
+    );
+    numbers = λ cs.
+        let b = balance (λ x. true) cs in
+        omega (
+          arith,
+          b,
+          count-all (accepted bearing bears (log (step k) fresh cs)),
+          count-all (yielded bearing bears (log (step k) fresh cs)),
+          count-all (inside (reached (step k) fresh cs)),
+          laws .counts (reached (step k) fresh cs) (inv cs),
+        );
+    sizes = λ cs. laws .sizes (reached (step k) fresh cs) (inv cs);
+    tokens = λ cs. (tokens-even k tokens fresh none-out cs, tokens-end k tokens fresh none-out cs);
+    owed = λ cs f e. tokens-owed k tokens fresh none-out cs f e;
+    welcome = λ cs honest t a.
+        let s : S = reached (step k) fresh cs in
+        let none : spend-fault (k .tokened) s t ≡ None = tokens-welcome k tokens fresh none-out cs honest t a in (
+          ap (λ o. isOk (answers o t (k .tokened .notices s (t .address)))) none,
+          ap (λ o. isOk (answers-lent o (k .tokened .notices s (t .address)))) none,
+          ap (λ o. isOk (answers {A = Unit {0}} o t tt)) none,
+        );
+  }

@@ -184,10 +184,10 @@ module _ {S P Q T O : Type 0} (k : Kind S P Q T O) (laws : Token-laws k) where
   good-keep : (us : List Waker) (s s′ : S) → k .tokened .out s′ ≡ k .tokened .out s → k .tokened .name s′ ≡ k .tokened .name s
       → ((b : ℕ) → k .tokened .known s b ≡ true → k .tokened .known s′ b ≡ true) → Good us s → Good us s′
   unfolding Good Mine
-  good-keep us s s′ o n kn good =
-      ( o ∙ good .0
-      , λ t a. (subst (λ m. eqb (t .name) m ≡ true) (sym n) (good .1 t a .0), kn (t .address) (good .1 t a .1))
-      )
+  good-keep us s s′ o n kn good = (
+    o ∙ good .0,
+    λ t a. (subst (λ m. eqb (t .name) m ≡ true) (sym n) (good .1 t a .0), kn (t .address) (good .1 t a .1)),
+  )
 
   good-woken : (us : List Waker) (s : S) (a : ℕ) → Good us s → Good us (k .tokened .woken s a)
   good-woken us s a good = good-keep us s (k .tokened .woken s a) (laws .out-woken s a) (laws .name-woken s a) (λ b e. laws .known-woken s a b e) good
@@ -199,26 +199,26 @@ module _ {S P Q T O : Type 0} (k : Kind S P Q T O) (laws : Token-laws k) where
   same-mine : (s : S) (t u : Waker) → same-token u t ≡ true → Mine s t → Mine s u
   unfolding Mine
   same-mine s t u e m =
-      let p = and-parts (eqb (u .name) (t .name)) (eqb (u .address) (t .address)) e in
-      ( subst (λ x. eqb x (k .tokened .name s) ≡ true) (sym (eqb-true (u .name) (t .name) (p .0))) (m .0)
-      , subst (λ x. k .tokened .known s x ≡ true) (sym (eqb-true (u .address) (t .address) (p .1))) (m .1)
+      let p = and-parts (eqb (u .name) (t .name)) (eqb (u .address) (t .address)) e in (
+        subst (λ x. eqb x (k .tokened .name s) ≡ true) (sym (eqb-true (u .name) (t .name) (p .0))) (m .0),
+        subst (λ x. k .tokened .known s x ≡ true) (sym (eqb-true (u .address) (t .address) (p .1))) (m .1),
       )
 
   good-more : (us : List Waker) (s : S) (t : Waker) → Mine s t → Good us s → Good (t ∷ us) (one-more (k .tokened) s)
   unfolding Good
   good-more us s t m good =
-      let n : ℕ = k .tokened .out s + 1 in
-      ( omega (arith, laws .out-set s n, good .0)
-      , λ u e. mine-set s n u
-          (⊎-elim (λ here. same-mine s t u here m) (λ later. good .1 u later) (or-cases (same-token u t) (among u us) e))
+      let n : ℕ = k .tokened .out s + 1 in (
+        omega (arith, laws .out-set s n, good .0),
+        λ u e. mine-set s n u
+            (⊎-elim (λ here. same-mine s t u here m) (λ later. good .1 u later) (or-cases (same-token u t) (among u us) e)),
       )
 
   good-less : (us : List Waker) (s : S) (t : Waker) → among t us ≡ true → Good us s → Good (without t us) (one-less (k .tokened) s)
   unfolding Good
   good-less us s t a good =
-      let n : ℕ = k .tokened .out s - 1 in
-      ( omega (arith, laws .out-set s n, good .0, length-without t us a)
-      , λ u e. mine-set s n u (good .1 u (among-without t u us e))
+      let n : ℕ = k .tokened .out s - 1 in (
+        omega (arith, laws .out-set s n, good .0, length-without t us a),
+        λ u e. mine-set s n u (good .1 u (among-without t u us e)),
       )
 
   hand-good : (us : List Waker) (s : S) (a : ℕ) (o : Option Fault) → (o ≡ None → k .tokened .known s a ≡ true) → Good us s

@@ -39,18 +39,18 @@ lent-none (Some f) a b e = let z : _≡_ {A = ℕ} 0 1 = cc in absurd (omega ari
 module _ {S P Q T O : Type 0} (k : Kind S P Q T O) (tokens : Token-laws k) (Inv : S → Type 0) (queued : S → ℕ → ℕ) (laws : Wake-laws k Inv queued) where
   -- a token that passes still passes after a wake, and after one more was handed out
   pass-woken : (s : S) (a : ℕ) (t : Waker) → Passes (k .tokened) s t → Passes (k .tokened) (k .tokened .woken s a) t
-  pass-woken s a t p = record
-      { named = subst (λ n. eqb (t .name) n ≡ true) (sym (tokens .name-woken s a)) (p .named)
-      ; some = subst (λ n. 0 < n) (sym (tokens .out-woken s a)) (p .some)
-      ; there = tokens .known-woken s a (t .address) (p .there)
-      }
+  pass-woken s a t p = record {
+    named = subst (λ n. eqb (t .name) n ≡ true) (sym (tokens .name-woken s a)) (p .named);
+    some = subst (λ n. 0 < n) (sym (tokens .out-woken s a)) (p .some);
+    there = tokens .known-woken s a (t .address) (p .there);
+  }
 
   pass-more : (s : S) (t : Waker) → Passes (k .tokened) s t → Passes (k .tokened) (one-more (k .tokened) s) t
-  pass-more s t p = record
-      { named = subst (λ n. eqb (t .name) n ≡ true) (sym (tokens .name-set s _)) (p .named)
-      ; some = let e = tokens .out-set s (k .tokened .out s + 1) in omega (arith, e)
-      ; there = tokens .known-set s _ (t .address) (p .there)
-      }
+  pass-more s t p = record {
+    named = subst (λ n. eqb (t .name) n ≡ true) (sym (tokens .name-set s _)) (p .named);
+    some = let e = tokens .out-set s (k .tokened .out s + 1) in omega (arith, e);
+    there = tokens .known-set s _ (t .address) (p .there);
+  }
 
   both-by : (s : S) (t : Waker) (o : Option Fault) → spend-fault (k .tokened) s t ≡ o
       → leaves o s (one-less (k .tokened) (k .tokened .woken s (t .address)))
@@ -75,11 +75,11 @@ module _ {S P Q T O : Type 0} (k : Kind S P Q T O) (tokens : Token-laws k) (Inv 
       let none : spend-fault (k .tokened) s′ t ≡ None = pass (k .tokened) s′ t (pass-more s t p) in
       let fine : spend-fault (k .tokened) (step k s (clone t) .0) u ≡ None = ap (λ x. spend-fault (k .tokened) x u) there ∙ ap (λ v. spend-fault (k .tokened) s′ v) (sym (got .1)) ∙ none in
       let count : k .tokened .out s′ - 1 ≡ k .tokened .out s = let d = tokens .out-set s (k .tokened .out s + 1) in omega (arith, d) in
-      let back : one-less (k .tokened) s′ ≡ s = laws .set-twice s _ _ ∙ ap (λ n. k .tokened .with-out s n) count ∙ laws .set-same s in
-      ( sym (got .1)
-      , ap (λ o. isOk (answers {A = Unit {0}} o u tt)) fine
-      , ap (λ o. leaves o (step k s (clone t) .0) (one-less (k .tokened) (step k s (clone t) .0))) fine
-        ∙ ap (λ x. one-less (k .tokened) x) there ∙ back
+      let back : one-less (k .tokened) s′ ≡ s = laws .set-twice s _ _ ∙ ap (λ n. k .tokened .with-out s n) count ∙ laws .set-same s in (
+        sym (got .1),
+        ap (λ o. isOk (answers {A = Unit {0}} o u tt)) fine,
+        ap (λ o. leaves o (step k s (clone t) .0) (one-less (k .tokened) (step k s (clone t) .0))) fine
+            ∙ ap (λ x. one-less (k .tokened) x) there ∙ back,
       )
 
   waits : (s : S) (t : Waker) (n : ℕ) → Inv s → step k s (wake t) .1 ≡ Ok n → queued (step k s (wake t) .0) (t .address) ≡ 1
@@ -100,14 +100,14 @@ module _ {S P Q T O : Type 0} (k : Kind S P Q T O) (tokens : Token-laws k) (Inv 
         omega (arith, c, one, count-all (inside s), count-all (inside s′), tickets .counts s i, tickets .counts s′ (tickets .keeps .polled s post i))
 
     pub waker-laws : Waker-laws (step k) fresh queued len
-    waker-laws = record
-        { wake-is-both = λ cs t.
-            let s : S = reached (step k) fresh cs in
-            ( both-by s t (spend-fault (k .tokened) s t) refl
-            , λ n. same-notice s t (k .tokened .notices s (t .address)) n (spend-fault (k .tokened) s t)
-            )
-        ; clone-and-drop = λ cs t u e. cloned (reached (step k) fresh cs) t u e
-        ; woken-waits = λ cs t n e. waits (reached (step k) fresh cs) t n (kept-run k Inv (laws .keeps) fresh cs kept) e
-        ; ready-leaves = λ cs post x e.
-            ready-less (reached (step k) fresh cs) post x (kept-run k Inside-inv (tickets .keeps) fresh cs kept-inside) e
-        }
+    waker-laws = record {
+      wake-is-both = λ cs t.
+          let s : S = reached (step k) fresh cs in (
+            both-by s t (spend-fault (k .tokened) s t) refl,
+            λ n. same-notice s t (k .tokened .notices s (t .address)) n (spend-fault (k .tokened) s t),
+          );
+      clone-and-drop = λ cs t u e. cloned (reached (step k) fresh cs) t u e;
+      woken-waits = λ cs t n e. waits (reached (step k) fresh cs) t n (kept-run k Inv (laws .keeps) fresh cs kept) e;
+      ready-leaves = λ cs post x e.
+          ready-less (reached (step k) fresh cs) post x (kept-run k Inside-inv (tickets .keeps) fresh cs kept-inside) e;
+    }

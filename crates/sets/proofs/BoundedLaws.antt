@@ -66,13 +66,13 @@ module _ {F X : Type 0} (bearing : F → X) (s : Bounded F) (f : F) (chained : C
       → weigh bearing test (slots-of s) + countBy test (if-ok (bearing f) (push-answer s f)) ≡ weigh bearing test (inserted (s .group .table) f .slots)
   push-counts test true e =
       let a : countBy test (if-ok (bearing f) (push-answer s f)) ≡ 0
-            = ap (λ r. countBy test (if-ok (bearing f) r)) (cond-true (full (slots-of s)) (Err (record { fault = NoVacantSlot (length (slots-of s)); input = f })) (Ok (s .group .table .head)) e) in
+      = ap (λ r. countBy test (if-ok (bearing f) r)) (cond-true (full (slots-of s)) (Err (record { fault = NoVacantSlot (length (slots-of s)); input = f })) (Ok (s .group .table .head)) e) in
       let w = ap (λ (t : Table F). weigh bearing test (t .slots)) (inserted-full (s .group .table) f e) in
       omega (arith, a, w)
   push-counts test false e =
       let i : Inserts (slots-of s) (s .group .table .head) f = insert-chained (slots-of s) (s .group .table .head) f chained e in
       let a : countBy test (if-ok (bearing f) (push-answer s f)) ≡ countBy test (bearing f ∷ [])
-            = ap (λ r. countBy test (if-ok (bearing f) r)) (cond-false (full (slots-of s)) (Err (record { fault = NoVacantSlot (length (slots-of s)); input = f })) (Ok (s .group .table .head)) e) in
+      = ap (λ r. countBy test (if-ok (bearing f) r)) (cond-false (full (slots-of s)) (Err (record { fault = NoVacantSlot (length (slots-of s)); input = f })) (Ok (s .group .table .head)) e) in
       let one = sumBy-cons (λ x. cond (test x) 1 0) (bearing f) [] in
       let w = ap (λ (t : Table F). weigh bearing test (t .slots)) (inserted-open (s .group .table) f e) in
       let d = weigh-set bearing test (slots-of s) (s .group .table .head) (Occupied f) (i .within) in
@@ -86,7 +86,6 @@ fresh-held slots e = nil-from-length (held-in slots) (length-held slots ∙ e)
 module _ {F O : Type 0} (acts : Acts F O) (bearing : F → ℕ × ℕ) (bears : O → ℕ × ℕ)
     (keeps : (f : F) (post : List ℕ) → acts .answers f post ≡ Pending → bearing (acts .after f post) ≡ bearing f)
     (gives : (f : F) (post : List ℕ) (x : O) → acts .answers f post ≡ Ready x → bears x ≡ bearing f) where
-
   Inv : Bounded F → Type 0
   Inv s = Chained (slots-of s) (s .group .table .head)
 
@@ -97,22 +96,22 @@ module _ {F O : Type 0} (acts : Acts F O) (bearing : F → ℕ × ℕ) (bears : 
   poll-fair s post = fair acts bearing bears post (λ f e. keeps f post e) (λ f x e. gives f post x e) (s .group)
 
   token-laws : Token-laws (kind acts)
-  token-laws = record
-      { out-set = λ s n. refl
-      ; out-woken = λ s a. refl
-      ; out-pushed = λ s f. refl
-      ; out-polled = λ s post. refl
-      ; name-set = λ s n. refl
-      ; name-woken = λ s a. refl
-      ; name-pushed = λ s f. refl
-      ; name-polled = λ s post. refl
-      ; known-set = λ s n b e. e
-      ; known-woken = λ s a b e. e
-      ; known-pushed = λ s f b e.
-          ap (λ n. ltb b n) (length-cond (full (slots-of s)) (slots-of s) (s .group .table .head) (Occupied f)) ∙ e
-      ; known-polled = λ s post b e. ap (λ n. ltb b n) (poll-fair s post .long) ∙ e
-      ; occupied-known = λ s a e. lt-ltb a (length (slots-of s)) (occupied-within (slots-of s) a e)
-      }
+  token-laws = record {
+    out-set = λ s n. refl;
+    out-woken = λ s a. refl;
+    out-pushed = λ s f. refl;
+    out-polled = λ s post. refl;
+    name-set = λ s n. refl;
+    name-woken = λ s a. refl;
+    name-pushed = λ s f. refl;
+    name-polled = λ s post. refl;
+    known-set = λ s n b e. e;
+    known-woken = λ s a b e. e;
+    known-pushed = λ s f b e.
+        ap (λ n. ltb b n) (length-cond (full (slots-of s)) (slots-of s) (s .group .table .head) (Occupied f)) ∙ e;
+    known-polled = λ s post b e. ap (λ n. ltb b n) (poll-fair s post .long) ∙ e;
+    occupied-known = λ s a e. lt-ltb a (length (slots-of s)) (occupied-within (slots-of s) a e);
+  }
 
   length-inside : (s : Bounded F) → length (inside s) ≡ len (slots-of s)
   unfolding inside
@@ -120,26 +119,26 @@ module _ {F O : Type 0} (acts : Acts F O) (bearing : F → ℕ × ℕ) (bears : 
 
   ticket-laws : Ticket-laws (kind acts) bearing bears Inv inside elements how-many
   unfolding Inv inside
-  ticket-laws = record
-      { keeps = record
-          { set = λ s n i. i
-          ; woken = λ s a i. i
-          ; pushed = λ s f i. push-chained bearing s f i (full (slots-of s)) refl
-          ; polled = λ s post i. poll-fair s post .chained i
-          }
-      ; inside-set = λ s n. refl
-      ; inside-woken = λ s a. refl
-      ; inside-pushed = λ s f test i.
-          omega (arith, count-inside bearing test (slots-of s), count-inside bearing test (inserted (s .group .table) f .slots), push-counts bearing s f i test (full (slots-of s)) refl)
-      ; inside-polled = λ s post test i.
-          omega (arith, count-inside bearing test (slots-of s), count-inside bearing test (polled acts post (s .group) .group .table .slots), poll-fair s post .yields test)
-      ; none-inside = λ s post i.
-          ( λ e. empty-none acts bearing bears post (λ f d. keeps f post d) (λ f x d. gives f post x d) (s .group) (sym (length-inside s) ∙ ap length e)
-          , λ e. nil-from-length (inside s) (length-inside s ∙ none-empty acts bearing bears post (λ f d. keeps f post d) (λ f x d. gives f post x d) (s .group) e)
-          )
-      ; counts = λ s i. sym (length-inside s)
-      ; sizes = λ s i. sym (length-held (slots-of s)) ∙ size-length (elements s)
-      }
+  ticket-laws = record {
+    keeps = record {
+      set = λ s n i. i;
+      woken = λ s a i. i;
+      pushed = λ s f i. push-chained bearing s f i (full (slots-of s)) refl;
+      polled = λ s post i. poll-fair s post .chained i;
+    };
+    inside-set = λ s n. refl;
+    inside-woken = λ s a. refl;
+    inside-pushed = λ s f test i.
+        omega (arith, count-inside bearing test (slots-of s), count-inside bearing test (inserted (s .group .table) f .slots), push-counts bearing s f i test (full (slots-of s)) refl);
+    inside-polled = λ s post test i.
+        omega (arith, count-inside bearing test (slots-of s), count-inside bearing test (polled acts post (s .group) .group .table .slots), poll-fair s post .yields test);
+    none-inside = λ s post i. (
+      λ e. empty-none acts bearing bears post (λ f d. keeps f post d) (λ f x d. gives f post x d) (s .group) (sym (length-inside s) ∙ ap length e),
+      λ e. nil-from-length (inside s) (length-inside s ∙ none-empty acts bearing bears post (λ f d. keeps f post d) (λ f x d. gives f post x d) (s .group) e),
+    );
+    counts = λ s i. sym (length-inside s);
+    sizes = λ s i. sym (length-held (slots-of s)) ∙ size-length (elements s);
+  }
 
   -- no slot waits twice
   Once : Bounded F → Type 0
@@ -173,18 +172,18 @@ module _ {F O : Type 0} (acts : Acts F O) (bearing : F → ℕ × ℕ) (bears : 
 
   wake-laws : Wake-laws (kind acts) Once queued
   unfolding Once
-  wake-laws = record
-      { set-twice = λ s n m. refl
-      ; set-same = λ s. refl
-      ; queued-set = λ s n a. refl
-      ; queued-woken = λ s a d. count-one a (enqueued (s .group .wakes .waiting) a) (distinct-enqueued (s .group .wakes .waiting) a d) (member-enqueued (s .group .wakes .waiting) a)
-      ; keeps = record
-          { set = λ s n d. d
-          ; woken = λ s a d. distinct-enqueued (s .group .wakes .waiting) a d
-          ; pushed = λ s f d. cond-both (full (slots-of s)) (s .group .wakes .waiting) (enqueued (s .group .wakes .waiting) (s .group .table .head)) (λ w. distinct w ≡ true) (λ e. d) (λ e. distinct-enqueued (s .group .wakes .waiting) (s .group .table .head) d)
-          ; polled = λ s post d. polled-once post (s .group) (eqb (len (slots-of s)) 0) d
-          }
-      }
+  wake-laws = record {
+    set-twice = λ s n m. refl;
+    set-same = λ s. refl;
+    queued-set = λ s n a. refl;
+    queued-woken = λ s a d. count-one a (enqueued (s .group .wakes .waiting) a) (distinct-enqueued (s .group .wakes .waiting) a d) (member-enqueued (s .group .wakes .waiting) a);
+    keeps = record {
+      set = λ s n d. d;
+      woken = λ s a d. distinct-enqueued (s .group .wakes .waiting) a d;
+      pushed = λ s f d. cond-both (full (slots-of s)) (s .group .wakes .waiting) (enqueued (s .group .wakes .waiting) (s .group .table .head)) (λ w. distinct w ≡ true) (λ e. d) (λ e. distinct-enqueued (s .group .wakes .waiting) (s .group .table .head) d);
+      polled = λ s post d. polled-once post (s .group) (eqb (len (slots-of s)) 0) d;
+    };
+  }
 
   -- the promise over every run of a bounded set
   pub bounded-promises : (name : ℕ) (slots : List (Slot F)) (records : List WakeRecord)
@@ -211,14 +210,14 @@ module _ {F O : Type 0} (acts : Acts F O) (bearing : F → ℕ × ℕ) (bears : 
       ap (λ p. turn-from acts post g p) e ∙ ap (λ f. turn-at acts post (dequeued acts post g) i f) none
 
   pub bounded-never-again : (name : ℕ) (slots : List (Slot F)) (records : List WakeRecord) → Never-again acts (made name slots records)
-  bounded-never-again name slots records = record
-      { ready-vacates = λ cs post f e.
-          let s : Bounded F = reached (step acts) (made name slots records) cs in
-          ( ap (λ p. output-of acts post p) e
-          , ready-vacated acts bearing bears post (λ g d. keeps g post d) (λ g x d. gives g post x d) (s .group) f e
-          )
-      ; vacant-passed = λ g post i e none. passed-by g post i (first (g .wakes .waiting)) e none
-      }
+  bounded-never-again name slots records = record {
+    ready-vacates = λ cs post f e.
+        let s : Bounded F = reached (step acts) (made name slots records) cs in (
+          ap (λ p. output-of acts post p) e,
+          ready-vacated acts bearing bears post (λ g d. keeps g post d) (λ g x d. gives g post x d) (s .group) f e,
+        );
+    vacant-passed = λ g post i e none. passed-by g post i (first (g .wakes .waiting)) e none;
+  }
 
   -- of every set that is as it was made
   module _ (s : Bounded F) (name : ℕ) (slots : List (Slot F)) (records : List WakeRecord) (fresh : s ≡ made name slots records) where

@@ -85,7 +85,6 @@ module _ {F X : Type 0} (bearing : F → X) where
 module _ {F O X : Type 0} (acts : Acts F O) (bearing : F → X) (bears : O → X) (post : List ℕ)
     (keeps : (f : F) → acts .answers f post ≡ Pending → bearing (acts .after f post) ≡ bearing f)
     (gives : (f : F) (x : O) → acts .answers f post ≡ Ready x → bears x ≡ bearing f) where
-
   -- the same labels lie in the slots
   pub Same : Group F → Group F → Type 0
   Same g g′ = (test : X → Bool) → weigh bearing test (g′ .table .slots) ≡ weigh bearing test (g .table .slots)
@@ -119,10 +118,10 @@ module _ {F O X : Type 0} (acts : Acts F O) (bearing : F → X) (bears : O → X
     was test = ap (weight bearing test) (task-slot (g .table .slots) i f there)
 
     served-kept : Table-kept g (served acts post g i f)
-    served-kept = record
-        { long = length-set (g .table .slots) i (Occupied (acts .after f post))
-        ; chained = λ c. replace-chained (g .table .slots) (g .table .head) i (acts .after f post) c (ap isSome there) .chained
-        }
+    served-kept = record {
+      long = length-set (g .table .slots) i (Occupied (acts .after f post));
+      chained = λ c. replace-chained (g .table .slots) (g .table .head) i (acts .after f post) c (ap isSome there) .chained;
+    }
 
     answered : (n : ℕ) (p : Poll O) → acts .answers f post ≡ p → Turn-did g (served acts post g i f) (turn-answer acts post n i p)
     unfolding Turn-did Same Done
@@ -130,21 +129,21 @@ module _ {F O X : Type 0} (acts : Acts F O) (bearing : F → X) (bears : O → X
         let w = weigh-set bearing test (g .table .slots) i (Occupied (acts .after f post)) within in
         let same : _≡_ {A = ℕ} (cond (test (bearing (acts .after f post))) 1 0) (cond (test (bearing f)) 1 0) = ap (λ x. cond (test x) 1 0) (keeps f e) in
         omega (arith, w, was test, same)
-    answered n (Ready x) e =
-        ( still-occupied (g .table .slots) i (acts .after f post) within
-        , λ test.
-            let w = weigh-set bearing test (g .table .slots) i (NextFree (g .table .head)) within in
-            let twice : weigh bearing test (set (set (g .table .slots) i (Occupied (acts .after f post))) i (NextFree (g .table .head))) ≡ weigh bearing test (set (g .table .slots) i (NextFree (g .table .head)))
-                  = ap (weigh bearing test) (set-set (g .table .slots) i (Occupied (acts .after f post)) (NextFree (g .table .head))) in
-            let same : _≡_ {A = ℕ} (cond (test (bears x)) 1 0) (cond (test (bearing f)) 1 0) = ap (λ y. cond (test y) 1 0) (gives f x e) in
-            omega (arith, w, was test, same, twice)
-        )
+    answered n (Ready x) e = (
+      still-occupied (g .table .slots) i (acts .after f post) within,
+      λ test.
+          let w = weigh-set bearing test (g .table .slots) i (NextFree (g .table .head)) within in
+          let twice : weigh bearing test (set (set (g .table .slots) i (Occupied (acts .after f post))) i (NextFree (g .table .head))) ≡ weigh bearing test (set (g .table .slots) i (NextFree (g .table .head)))
+          = ap (weigh bearing test) (set-set (g .table .slots) i (Occupied (acts .after f post)) (NextFree (g .table .head))) in
+          let same : _≡_ {A = ℕ} (cond (test (bears x)) 1 0) (cond (test (bearing f)) 1 0) = ap (λ y. cond (test y) 1 0) (gives f x e) in
+          omega (arith, w, was test, same, twice),
+    )
 
   self-kept : (g g′ : Group F) → g′ .table ≡ g .table → Table-kept g g′
-  self-kept g g′ e = record
-      { long = ap (λ (t : Table F). length (t .slots)) e
-      ; chained = λ c. subst (λ (t : Table F). Chained (t .slots) (t .head)) (sym e) c
-      }
+  self-kept g g′ e = record {
+    long = ap (λ (t : Table F). length (t .slots)) e;
+    chained = λ c. subst (λ (t : Table F). Chained (t .slots) (t .head)) (sym e) c;
+  }
 
   self-same : (g g′ : Group F) → g′ .table ≡ g .table → Same g g′
   unfolding Same
@@ -164,10 +163,10 @@ module _ {F O X : Type 0} (acts : Acts F O) (bearing : F → X) (bears : O → X
   at-turned : (h : Group F) (i : ℕ) (o : Option F) → task-at (h .table .slots) i ≡ o → Turned h (turn-at acts post h i o .1) (turn-at acts post h i o .0)
   unfolding Turn-did
   at-turned h i None there = record { kept = self-kept h h refl; outcome = self-same h h refl }
-  at-turned h i (Some f) there = record
-      { kept = served-kept h i f there
-      ; outcome = answered h i f there (self-notice acts post h i f) (acts .answers f post) refl
-      }
+  at-turned h i (Some f) there = record {
+    kept = served-kept h i f there;
+    outcome = answered h i f there (self-notice acts post h i f) (acts .answers f post) refl;
+  }
 
   from-turned : (g : Group F) (o : Option ℕ) → Turned g (turn-from acts post g o .1) (turn-from acts post g o .0)
   unfolding Turn-did Same Done
@@ -219,22 +218,22 @@ module _ {F O X : Type 0} (acts : Acts F O) (bearing : F → X) (bears : O → X
   -- the slot of a ready task is vacated
   vacates : (g h : Group F) (p : Poll (Option (Found O))) → Polled-well g h p → Fair g (vacated acts post h p) (output-of acts post p)
   unfolding Poll-did Same Done
-  vacates g h Pending w = record
-      { long = w .kept .long
-      ; chained = w .kept .chained
-      ; yields = λ test. omega (arith, w .outcome test)
-      }
+  vacates g h Pending w = record {
+    long = w .kept .long;
+    chained = w .kept .chained;
+    yields = λ test. omega (arith, w .outcome test);
+  }
   vacates g h (Ready None) w = absurd (w .outcome)
   vacates g h (Ready (Some f)) w =
       let there : occupied-at (h .table .slots) (f .slot) ≡ true = w .outcome .0 in
       let is : removed (h .table) (f .slot) ≡ record { slots = set (h .table .slots) (f .slot) (NextFree (h .table .head)); head = f .slot } = removed-there (h .table) (f .slot) there in
-      record
-      { long = ap (λ (t : Table F). length (t .slots)) is ∙ length-set (h .table .slots) (f .slot) (NextFree (h .table .head)) ∙ w .kept .long
-      ; chained = λ c. subst (λ (t : Table F). Chained (t .slots) (t .head)) (sym is) (remove-chained (h .table .slots) (h .table .head) (f .slot) (w .kept .chained c) there .chained)
-      ; yields = λ test.
-          let e = ap (λ (t : Table F). weigh bearing test (t .slots)) is in
-          let s = sumBy-cons (λ x. cond (test x) 1 0) (bears (f .answer)) [] in
-          omega (arith, e, s, w .outcome .1 test)
+      record {
+        long = ap (λ (t : Table F). length (t .slots)) is ∙ length-set (h .table .slots) (f .slot) (NextFree (h .table .head)) ∙ w .kept .long;
+        chained = λ c. subst (λ (t : Table F). Chained (t .slots) (t .head)) (sym is) (remove-chained (h .table .slots) (h .table .head) (f .slot) (w .kept .chained c) there .chained);
+        yields = λ test.
+            let e = ap (λ (t : Table F). weigh bearing test (t .slots)) is in
+            let s = sumBy-cons (λ x. cond (test x) 1 0) (bears (f .answer)) [] in
+            omega (arith, e, s, w .outcome .1 test);
       }
 
   -- by whether there is any task

@@ -43,13 +43,13 @@ abbrev pub capacity-of : {F : Type 0} → List (Slot F) → List WakeRecord → 
 capacity-of slots records = min (min (length slots) (length records)) 65536
 
 abbrev pub made : {F : Type 0} → ℕ → List (Slot F) → List WakeRecord → Bounded F
-made name slots records = record
-    { name = name
-    ; out = 0
-    ; group = group.fresh (capacity-of slots records)
-    ; slots-beyond = drop (capacity-of slots records) slots
-    ; records-beyond = drop (capacity-of slots records) records
-    }
+made name slots records = record {
+  name = name;
+  out = 0;
+  group = group.fresh (capacity-of slots records);
+  slots-beyond = drop (capacity-of slots records) slots;
+  records-beyond = drop (capacity-of slots records) records;
+}
 
 abbrev pub with-group : {F : Type 0} → Bounded F → Group F → Bounded F
 with-group s g = record { name = s .name; out = s .out; group = g; slots-beyond = s .slots-beyond; records-beyond = s .records-beyond }
@@ -67,15 +67,15 @@ push-answer s f =
 
 -- What the token calls need: every slot has one address, and a wake goes to the group's queue and registration.
 abbrev pub tokened : {F : Type 0} → Tokened (Bounded F)
-tokened = record
-    { name = λ s. s .name
-    ; out = λ s. s .out
-    ; with-out = with-out
-    ; occupied = λ s a. occupied-at (slots-of s) a
-    ; known = λ s a. ltb a (length (slots-of s))
-    ; woken = λ s a. with-group s (woken-at (s .group) a)
-    ; notices = λ s a. wakes.notice (s .group .wakes) a
-    }
+tokened = record {
+  name = λ s. s .name;
+  out = λ s. s .out;
+  with-out = with-out;
+  occupied = λ s a. occupied-at (slots-of s) a;
+  known = λ s a. ltb a (length (slots-of s));
+  woken = λ s a. with-group s (woken-at (s .group) a);
+  notices = λ s a. wakes.notice (s .group .wakes) a;
+}
 
 -- The questions that are answered by a number.
 pub data Question : Type 0 where
@@ -101,14 +101,14 @@ queued s a = countBy (eqb a) (s .group .wakes .waiting)
 
 module _ {F O : Type 0} (acts : Acts F O) where
   abbrev pub kind : Kind (Bounded F) F Question F O
-  kind = record
-      { tokened = tokened
-      ; pushed = λ s f. with-group s (joined (s .group) f)
-      ; accepts = push-answer
-      ; polled = λ s post. with-group s (polled acts post (s .group) .group)
-      ; yields = λ s post. polled acts post (s .group) .answer
-      ; number = number
-      }
+  kind = record {
+    tokened = tokened;
+    pushed = λ s f. with-group s (joined (s .group) f);
+    accepts = push-answer;
+    polled = λ s post. with-group s (polled acts post (s .group) .group);
+    yields = λ s post. polled acts post (s .group) .answer;
+    number = number;
+  }
 
   abbrev pub step : Step (Bounded F) F Question F O
   step = kinds.step kind

@@ -14,23 +14,23 @@ use Rattle.sets.specs.declared.futures_unordered_bounded.ending.Unended.{Unend
 use Rattle.std.specs.declared.option.Option.the-variants.{Some, None}
 
 abbrev pub set-of : {F : Type 0} → FuturesUnorderedBounded F → Bounded F
-set-of s = record
-    { name = s .name
-    ; out = s .tokens
-    ; group = group-in (ground (s .group))
-    ; slots-beyond = ground (s .group) .tasks .beyond
-    ; records-beyond = ground (s .group) .shared .beyond
-    }
+set-of s = record {
+  name = s .name;
+  out = s .tokens;
+  group = group-in (ground (s .group));
+  slots-beyond = ground (s .group) .tasks .beyond;
+  records-beyond = ground (s .group) .shared .beyond;
+}
 
 -- A set that was not taken apart, as the set that it was, and what it keeps, so that it can be a set again.
 abbrev pub unended : {F : Type 0} → Unended F → Bounded F
-unended e = record
-    { name = e .name
-    ; out = e .tokens
-    ; group = group-in (ground (e .group))
-    ; slots-beyond = ground (e .group) .tasks .beyond
-    ; records-beyond = ground (e .group) .shared .beyond
-    }
+unended e = record {
+  name = e .name;
+  out = e .tokens;
+  group = group-in (ground (e .group));
+  slots-beyond = ground (e .group) .tasks .beyond;
+  records-beyond = ground (e .group) .shared .beyond;
+}
 
 abbrev pub Whole : {F : Type 0} → Unended F → Type 0
 Whole e = Sound (e .group) × From-start (e .group) × (e .tokens ≤ 65535)

@@ -61,11 +61,11 @@ abbrev pub with-data : {F : Type 0} → OrderWrapper F → F → OrderWrapper F
 with-data w f = record { «data» = f; index = w .index }
 
 abbrev pub wrapped-acts : {F O : Type 0} → Acts F O → Acts (OrderWrapper F) (OrderWrapper O)
-wrapped-acts acts = record
-    { wakes = λ w post. acts .wakes (w .«data») post
-    ; answers = λ w post. wrapped-answers (w .index) (acts .answers (w .«data») post)
-    ; after = λ w post. with-data w (acts .after (w .«data») post)
-    }
+wrapped-acts acts = record {
+  wakes = λ w post. acts .wakes (w .«data») post;
+  answers = λ w post. wrapped-answers (w .index) (acts .answers (w .«data») post);
+  after = λ w post. with-data w (acts .after (w .«data») post);
+}
 
 -- A stream's ticket is its owner and its next number; an item raises the number by one.
 abbrev pub raised : ℕ × ℕ → ℕ × ℕ
@@ -107,10 +107,10 @@ mailbag-answers m post =
 
 abbrev pub mailbag-after : Mailbag → List ℕ → Mailbag
 mailbag-after m post =
-    record
-    { owner = m .owner
-    ; next = cond (mailbag-gives m post) (m .next + 1) (m .next)
-    ; place = cond (mailbag-gives m post) (m .place + 1) (m .place)
+    record {
+      owner = m .owner;
+      next = cond (mailbag-gives m post) (m .next + 1) (m .next);
+      place = cond (mailbag-gives m post) (m .place + 1) (m .place);
     }
 
 abbrev pub mailbag-acts : Acts Mailbag (Option Delivery)
