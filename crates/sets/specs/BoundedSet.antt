@@ -1,15 +1,16 @@
 -- What a FuturesUnorderedBounded holds.
-use Prim.Native.Nat.{_+_}
+use Prim.Native.Nat.{_+_, _≤_}
 use denote.Ref.{now}
 use lib.ListN.{length, drop}
 use mathlib.Core.List.{_++_}
 use mathlib.Core.Path.{_≡_}
 use Rattle.runs.specs.Tokens.{end-fault}
 use Rattle.sets.specs.Bounded.{Bounded, slots-of, tokened}
-use Rattle.sets.specs.Ground.{ground, group-in}
+use Rattle.sets.specs.Ground.{ground, group-in, Sound, From-start}
 use Rattle.sets.specs.declared.futures_unordered_bounded.FuturesUnorderedBounded.{FuturesUnorderedBounded}
 use Rattle.sets.specs.declared.futures_unordered_bounded.ending.Ending.{Ending}
 use Rattle.sets.specs.declared.futures_unordered_bounded.ending.Ending.the-variants.{Ended, Refused}
+use Rattle.sets.specs.declared.futures_unordered_bounded.ending.Returned.{Returned}
 use Rattle.std.specs.declared.option.Option.the-variants.{Some, None}
 
 abbrev pub set-of : {F : Type 0} → FuturesUnorderedBounded F → Bounded F
@@ -21,6 +22,20 @@ set-of s = record
     ; records-beyond = ground (s .group) .shared .beyond
     }
 
+-- What was handed back, as the set that it was.
+abbrev pub returned : {F : Type 0} → Returned F → Bounded F
+returned e = record
+    { name = e .name
+    ; out = e .tokens
+    ; group = group-in (ground (e .group))
+    ; slots-beyond = ground (e .group) .tasks .beyond
+    ; records-beyond = ground (e .group) .shared .beyond
+    }
+
+-- It can be a set again.
+abbrev pub Whole : {F : Type 0} → Returned F → Type 0
+Whole e = Sound (e .group) × From-start (e .group) × (e .tokens ≤ 65535)
+
 -- A set that may end gives its memory back: the slots as they are, and the wake memory beyond its part as it was. One
 -- that may not is handed back with the fault, as it was.
 abbrev pub Taken-apart : {F : Type 0} → Bounded F → Ending F → Type 0
@@ -29,4 +44,4 @@ Taken-apart s (Ended m) =
     × (now (m .slots) ≡ slots-of s ++ s .slots-beyond)
     × (drop (length (slots-of s)) (now (m .records)) ≡ s .records-beyond)
     × (length (now (m .records)) ≡ length (slots-of s) + length (s .records-beyond))
-Taken-apart s (Refused f e) = (end-fault tokened s ≡ Some f) × (set-of e ≡ s)
+Taken-apart s (Refused f e) = (end-fault tokened s ≡ Some f) × (returned e ≡ s) × Whole e

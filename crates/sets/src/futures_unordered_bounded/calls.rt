@@ -4,11 +4,13 @@ ghost use mathlib.Core.Path.{_≡_};
 ghost use Rattle.runs.specs.Calls.{push as Push, poll as Poll-call, hand as Hand, clone as Clone-call, wake as Wake, wake-by-ref as Wake-by-ref, drop as Drop-call, may-end as May-end, ask};
 ghost use Rattle.runs.specs.Tokens.{spend-fault};
 ghost use Rattle.sets.specs.Bounded.{made, step, tokened, slots-of, how-many, how-many-can-be};
-ghost use Rattle.sets.specs.BoundedSet.{set-of, Taken-apart};
+ghost use Rattle.sets.specs.BoundedSet.{set-of, returned, Whole, Taken-apart};
 ghost use Rattle.std.specs.Options.{Cases as BySome};
 use crate::futures_unordered_bounded::ending::Ending;
+use crate::futures_unordered_bounded::ending::Returned;
 use crate::futures_unordered_bounded::FuturesUnorderedBounded;
 use crate::group::TaskGroup;
+use crate::memory::Memory;
 use slots::slot::Slot;
 use tasks::fault::Fault;
 use tasks::fault::Refused;
@@ -175,12 +177,29 @@ impl<'a, F: Future + Copy> FuturesUnorderedBounded<'a, F> {
     pub fn take_apart(self) -> Ending<'a, F>
         ensures { λ r. ⌜ Taken-apart (set-of (self .entry)) r ⌝ }
     {
-        match self.may_end() {
-            Ok(()) => {
-                let FuturesUnorderedBounded { name: _, tokens: _, group } = self;
-                Ending::Ended(group.take_apart())
-            }
-            Err(fault) => Ending::Refused(fault, self),
+        let FuturesUnorderedBounded { name, tokens, group } = self;
+        if tokens == 0 {
+            return Ending::Ended(group.take_apart());
         }
+        Ending::Refused(Fault::TokensOut { count: tokens }, Returned { name, tokens, group })
+    }
+}
+
+impl<'a, F: Copy> Returned<'a, F> {
+    // The set that was not taken apart.
+    pub fn into_set(self) -> FuturesUnorderedBounded<'a, F>
+        requires { ⌜ Whole self ⌝ }
+        ensures { λ r. ⌜ set-of r ≡ returned (self .entry) ⌝ }
+    {
+        let Returned { name, tokens, group } = self;
+        FuturesUnorderedBounded { name, tokens, group }
+    }
+
+    // Gives the memory back while tokens are out. They can never be spent any more.
+    pub fn abandon(self) -> Memory<'a, F>
+        requires { ⌜ Whole self ⌝ }
+    {
+        let Returned { name: _, tokens: _, group } = self;
+        group.take_apart()
     }
 }
