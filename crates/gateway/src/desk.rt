@@ -2,13 +2,13 @@
 use crate::script;
 use crate::script::Command;
 use crate::script::Opening;
-use sets::futures_unordered_bounded::ending::Ending;
 use sets::futures_unordered_bounded::FuturesUnorderedBounded;
+use sets::futures_unordered_bounded::ending::Ending;
 use sets::memory::Memory;
 use slots::slot::Slot;
+use slots::slot::SlotClone;
 use std::fmt;
 use std::io;
-use std::mem::ManuallyDrop;
 use tasks::fault::Fault;
 use tasks::fault::Refused;
 use tasks::letter::Delivery;
@@ -20,15 +20,18 @@ use tasks::post::word_at;
 use wakes::wake_record::WakeRecord;
 use wakes::waker::RawWaker;
 use wakes::waker::Waker;
-use slots::slot::SlotClone;
 
 type Orders<'a> = FuturesUnorderedBounded<'a, Letter>;
 
-// The shutdown polls at most that often; 65,535 orders need far less.
+// The shutdown polls at most that often. One poll for each of 65,535 orders, and one for every 61 turns besides, is less.
 const MOST_POLLS: u32 = 200000;
 
 // Where no good `open` comes first.
-const UNOPENED: Opening = Opening { name: 1, slots: 8, lines: 0 };
+const UNOPENED: Opening = Opening {
+    name: 1,
+    slots: 8,
+    lines: 0,
+};
 
 // An order that no reply has woken yet, with the two numbers of its token.
 #[derive(Clone, Copy)]
@@ -98,7 +101,13 @@ fn drop_token(rt: &LibcRuntime, set: &mut Orders<'_>, raw: RawWaker) -> io::Resu
 }
 
 // Hands out the token of a new order, and keeps its two numbers.
-fn keep_token(rt: &LibcRuntime, set: &mut Orders<'_>, book: &mut Book, letter: Letter, address: usize) -> io::Result<()> {
+fn keep_token(
+    rt: &LibcRuntime,
+    set: &mut Orders<'_>,
+    book: &mut Book,
+    letter: Letter,
+    address: usize,
+) -> io::Result<()> {
     match set.hand(address) {
         Ok(token) => {
             let raw = token.into_raw();
@@ -112,7 +121,13 @@ fn keep_token(rt: &LibcRuntime, set: &mut Orders<'_>, book: &mut Book, letter: L
     }
 }
 
-fn order(rt: &LibcRuntime, set: &mut Orders<'_>, book: &mut Book, letter: Letter) -> io::Result<()> {
+// Puts an order into the set, or says why it was refused.
+fn order(
+    rt: &LibcRuntime,
+    set: &mut Orders<'_>,
+    book: &mut Book,
+    letter: Letter,
+) -> io::Result<()> {
     let (client, number) = letter.ticket;
     match set.push(letter) {
         Ok(address) => {
@@ -123,11 +138,15 @@ fn order(rt: &LibcRuntime, set: &mut Orders<'_>, book: &mut Book, letter: Letter
         Err(refused) => {
             let shown = Shown(refused.fault);
             let (owner, own_number) = refused.input.ticket;
-            println!(rt, "order {client}/{number} refused: {shown}; ticket {owner}/{own_number} handed back")
+            println!(
+                rt,
+                "order {client}/{number} refused: {shown}; ticket {owner}/{own_number} handed back"
+            )
         }
     }
 }
 
+// Puts a word into the post.
 fn put(post: &mut Vec<u64>, place: u64, word: u64) {
     if let Some(there) = post.get_mut(place as usize) {
         *there = word;
@@ -135,19 +154,29 @@ fn put(post: &mut Vec<u64>, place: u64, word: u64) {
 }
 
 // The reply arrives in the post, and wakes the orders that wait for it.
-fn reply(rt: &LibcRuntime, set: &mut Orders<'_>, book: &mut Book, place: u64, word: u64) -> io::Result<()> {
+fn reply(
+    rt: &LibcRuntime,
+    set: &mut Orders<'_>,
+    book: &mut Book,
+    place: u64,
+    word: u64,
+) -> io::Result<()> {
     put(&mut book.post, place, word);
     let mut nobody = true;
     for _ in 0..book.waiting.len() {
         let Some(order) = take_at(&mut book.waiting, place) else {
             break;
         };
-        nobody = false;
-        let address = order.raw.address;
-        match set.wake(Waker::from_raw(order.raw)) {
-            Ok(notice) => println!(rt, "reply at {place}: word {word}; woke address {address}, notice {notice}")?,
+        let token = Waker::from_raw(order.raw);
+        let address = token.address();
+        match set.wake(token) {
+            Ok(notice) => println!(
+                rt,
+                "reply at {place}: word {word}; woke address {address}, notice {notice}"
+            )?,
             Err(refused) => given_back(rt, refused)?,
         }
+        nobody = false;
     }
     if nobody {
         println!(rt, "reply at {place}: word {word}; nobody waits")?;
@@ -156,7 +185,12 @@ fn reply(rt: &LibcRuntime, set: &mut Orders<'_>, book: &mut Book, place: u64, wo
 }
 
 // Counts an order that was yielded, and drops its token where no reply spent it.
-fn settle(rt: &LibcRuntime, set: &mut Orders<'_>, book: &mut Book, delivery: Delivery) -> io::Result<()> {
+fn settle(
+    rt: &LibcRuntime,
+    set: &mut Orders<'_>,
+    book: &mut Book,
+    delivery: Delivery,
+) -> io::Result<()> {
     if delivery.word == script::NO_ANSWER {
         book.unanswered = book.unanswered.saturating_add(1);
     } else {
@@ -168,6 +202,7 @@ fn settle(rt: &LibcRuntime, set: &mut Orders<'_>, book: &mut Book, delivery: Del
     }
 }
 
+// Prints what a poll answered.
 fn show(rt: &LibcRuntime, polled: Polled<Option<Delivery>>) -> io::Result<()> {
     let notices = polled.notices;
     let turns = polled.turns;
@@ -178,14 +213,25 @@ fn show(rt: &LibcRuntime, polled: Polled<Option<Delivery>>) -> io::Result<()> {
             let (client, number) = delivery.ticket;
             let word = delivery.word;
             if word == script::NO_ANSWER {
-                return println!(rt, "poll: no answer for {client}/{number}, notices {notices}, turns {turns}");
+                return println!(
+                    rt,
+                    "poll: no answer for {client}/{number}, notices {notices}, turns {turns}"
+                );
             }
-            println!(rt, "poll: reply {word} for {client}/{number}, notices {notices}, turns {turns}")
+            println!(
+                rt,
+                "poll: reply {word} for {client}/{number}, notices {notices}, turns {turns}"
+            )
         }
     }
 }
 
-fn poll(rt: &LibcRuntime, set: &mut Orders<'_>, book: &mut Book) -> io::Result<Polled<Option<Delivery>>> {
+// One poll of the set with the post.
+fn poll(
+    rt: &LibcRuntime,
+    set: &mut Orders<'_>,
+    book: &mut Book,
+) -> io::Result<Polled<Option<Delivery>>> {
     let polled = set.poll(book.post.as_slice());
     show(rt, polled)?;
     if let Poll::Ready(Some(delivery)) = polled.poll {
@@ -194,13 +240,14 @@ fn poll(rt: &LibcRuntime, set: &mut Orders<'_>, book: &mut Book) -> io::Result<P
     Ok(polled)
 }
 
+// Prints how many orders the set holds.
 fn held(rt: &LibcRuntime, set: &Orders<'_>) -> io::Result<()> {
     let held = set.len();
     let capacity = set.capacity();
     println!(rt, "held {held} of {capacity}")
 }
 
-// Nobody would wake the orders that still wait: the desk answers for them, and wakes them.
+// Nobody would wake the orders that still wait, and their words are still 0: the desk answers for them, and wakes them.
 fn give_up(rt: &LibcRuntime, set: &mut Orders<'_>, book: &mut Book) -> io::Result<()> {
     book.waiting.reverse();
     for _ in 0..book.waiting.len() {
@@ -210,7 +257,10 @@ fn give_up(rt: &LibcRuntime, set: &mut Orders<'_>, book: &mut Book) -> io::Resul
         let (client, number) = order.letter.ticket;
         let place = order.letter.place;
         put(&mut book.post, place, script::NO_ANSWER);
-        println!(rt, "closing: order {client}/{number} unanswered at place {place}")?;
+        println!(
+            rt,
+            "closing: order {client}/{number} unanswered at place {place}"
+        )?;
         match set.wake(Waker::from_raw(order.raw)) {
             Ok(_) => {}
             Err(refused) => given_back(rt, refused)?,
@@ -237,7 +287,10 @@ fn close(rt: &LibcRuntime, set: &mut Orders<'_>, book: &mut Book) -> io::Result<
     let answered = book.answered;
     let unanswered = book.unanswered;
     let held = set.len();
-    println!(rt, "accepted {accepted}, answered {answered}, unanswered {unanswered}, held {held}")
+    println!(
+        rt,
+        "accepted {accepted}, answered {answered}, unanswered {unanswered}, held {held}"
+    )
 }
 
 // Drops the tokens that are still kept, and asks whether the set may be taken apart.
@@ -257,7 +310,13 @@ fn drop_tokens(rt: &LibcRuntime, set: &mut Orders<'_>, book: &mut Book) -> io::R
 }
 
 // The day's commands, and then the end of the day.
-fn day(rt: &LibcRuntime, set: &mut Orders<'_>, book: &mut Book, lines: &[String], done: usize) -> io::Result<()> {
+fn day(
+    rt: &LibcRuntime,
+    set: &mut Orders<'_>,
+    book: &mut Book,
+    lines: &[String],
+    done: usize,
+) -> io::Result<()> {
     for (at, line) in lines.iter().enumerate().skip(done) {
         let text = line.as_str();
         if script::is_silent(text) {
@@ -281,27 +340,20 @@ fn day(rt: &LibcRuntime, set: &mut Orders<'_>, book: &mut Book, lines: &[String]
     drop_tokens(rt, set, book)
 }
 
-// Takes the set apart. A set that may not end keeps its memory: its tokens are lost, and the day ends all the same.
-fn take_apart(rt: &LibcRuntime, set: Orders<'_>) -> io::Result<()> {
-    match set.take_apart() {
-        Ending::Ended(memory) => {
-            let Memory { slots: _, records: _ } = memory;
-            println!(rt, "set taken apart")
-        }
-        Ending::Refused(fault, set) => {
-            let _lost = unsafe { ManuallyDrop::new_unchecked(set) };
-            let shown = Shown(fault);
-            println!(rt, "set not taken apart: {shown}")
-        }
-    }
-}
-
-// The lines of the script. One that is no text stands as an empty command, which cannot be read.
+// The lines of the script. One that is not UTF-8 is kept as a line that cannot be read.
 fn read(rt: &LibcRuntime) -> io::Result<Vec<String>> {
     let heap = rt.alloc();
     let mut lines = Vec::new(heap);
     for line in rt.lines(heap) {
-        lines.push(line?)?;
+        match line {
+            Ok(text) => lines.push(text)?,
+            Err(error) => {
+                if error.kind() != io::ErrorKind::InvalidData {
+                    return Err(error);
+                }
+                lines.push(String::from_str(heap, "(not UTF-8)")?)?;
+            }
+        }
     }
     Ok(lines)
 }
@@ -322,18 +374,47 @@ fn opened(rt: &LibcRuntime, lines: &[String]) -> io::Result<Opening> {
     }
 }
 
+// Reads the script, and runs its day on one set. Where printing failed, tokens can be out at the end.
 pub fn run(rt: &LibcRuntime) -> io::Result<()> {
     let heap = rt.alloc();
     let lines = read(rt)?;
     let opening = opened(rt, lines.as_slice())?;
     let mut slots: Vec<Slot<Letter>> = vec![in heap; Slot::NextFree(0); opening.slots]?;
-    let mut records = vec![in heap; WakeRecord { queued: false, next: 0 }; opening.slots]?;
+    let mut records = vec![in heap; WakeRecord {
+        queued: false,
+        next: 0
+    }; opening.slots]?;
     let post = vec![in heap; 0u64; script::PLACES]?;
     let waiting = Vec::new(heap);
-    let mut book = Book { post, waiting, accepted: 0, answered: 0, unanswered: 0 };
-    let mut set = FuturesUnorderedBounded::new(opening.name, slots.as_mut_slice(), records.as_mut_slice());
+    let mut book = Book {
+        post,
+        waiting,
+        accepted: 0,
+        answered: 0,
+        unanswered: 0,
+    };
+    let mut set = FuturesUnorderedBounded::new(
+        opening.name,
+        slots.as_mut_slice(),
+        records.as_mut_slice(),
+    );
     let outcome = day(rt, &mut set, &mut book, lines.as_slice(), opening.lines);
-    let ended = take_apart(rt, set);
-    outcome?;
-    ended
+    match set.take_apart() {
+        Ending::Ended(memory) => {
+            let Memory {
+                slots: _,
+                records: _,
+            } = memory;
+            println!(rt, "set taken apart")?;
+        }
+        Ending::Refused(fault, returned) => {
+            let Memory {
+                slots: _,
+                records: _,
+            } = returned.abandon();
+            let shown = Shown(fault);
+            println!(rt, "set abandoned: {shown}")?;
+        }
+    }
+    outcome
 }

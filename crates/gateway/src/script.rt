@@ -54,15 +54,24 @@ pub fn parse(line: &str) -> Option<Command> {
     let command = match words.next()? {
         "open" => {
             let name = small(words.next())?;
-            Command::Open { name, slots: bounded(words.next(), MOST_SLOTS)? as usize }
+            Command::Open {
+                name,
+                slots: bounded(words.next(), MOST_SLOTS)? as usize,
+            }
         }
         "order" => {
             let ticket = (small(words.next())?, small(words.next())?);
-            Command::Order(Letter { ticket, place: place(words.next())? })
+            Command::Order(Letter {
+                ticket,
+                place: place(words.next())?,
+            })
         }
         "reply" => {
             let place = place(words.next())?;
-            Command::Reply { place, word: reply_word(words.next())? }
+            Command::Reply {
+                place,
+                word: reply_word(words.next())?,
+            }
         }
         "poll" => Command::Poll,
         "held" => Command::Held,
@@ -88,7 +97,11 @@ pub fn first_opening(lines: &[String]) -> Option<Opening> {
     for (at, line) in lines.iter().enumerate() {
         if !is_silent(line.as_str()) {
             return match parse(line.as_str()) {
-                Some(Command::Open { name, slots }) => Some(Opening { name, slots, lines: at.saturating_add(1) }),
+                Some(Command::Open { name, slots }) => Some(Opening {
+                    name,
+                    slots,
+                    lines: at.saturating_add(1),
+                }),
                 _ => None,
             };
         }
