@@ -1,4 +1,14 @@
 // The desk: one set of waiting orders, the post where replies arrive, and the tokens that are out.
+ghost use Prim.Native.Nat.{_+_, _<_};
+ghost use lib.ListN.{set as set-at};
+ghost use mathlib.Core.Path.{_≡_};
+ghost use Rattle.runs.specs.Calls.{drop as Drop-call};
+ghost use Rattle.sets.specs.Bounded.{step};
+ghost use Rattle.sets.specs.BoundedSet.{set-of};
+ghost use Rattle.std.specs.Of.Vec.{vec-len, vec-items};
+ghost use Rattle.std.specs.Options.{Cases as BySome};
+ghost use Rattle.std.specs.Results.{Cases as ByOk};
+ghost use Rattle.tasks.specs.Kinds.{word-at, letter-acts};
 use crate::script;
 use crate::script::Command;
 use crate::script::Opening;
@@ -64,7 +74,9 @@ impl fmt::Display for Shown as ShownDisplay {
 }
 
 // Takes out the first order that waits at that place.
-fn take_at(waiting: &mut Vec<Waiting>, place: u64) -> Option<Waiting> {
+fn take_at(waiting: &mut Vec<Waiting>, place: u64) -> Option<Waiting>
+    ensures { λ r. ⌜ BySome r (vec-len (now (waiting .exit)) ≡ vec-len (now (waiting .entry))) (λ w. (w .letter .place ≡ place) × (vec-len (now (waiting .exit)) + 1 ≡ vec-len (now (waiting .entry)))) ⌝ }
+{
     for at in 0..waiting.len() {
         if waiting[at].letter.place == place {
             return Some(waiting.remove(at));
@@ -74,7 +86,9 @@ fn take_at(waiting: &mut Vec<Waiting>, place: u64) -> Option<Waiting> {
 }
 
 // Takes out the order that a poll yielded, where it was not woken.
-fn take_yielded(waiting: &mut Vec<Waiting>, post: &[u64], delivery: Delivery) -> Option<Waiting> {
+fn take_yielded(waiting: &mut Vec<Waiting>, post: &[u64], delivery: Delivery) -> Option<Waiting>
+    ensures { λ r. ⌜ BySome r (vec-len (now (waiting .exit)) ≡ vec-len (now (waiting .entry))) (λ w. (w .letter .ticket ≡ delivery .ticket) × (word-at (now (post .entry)) (w .letter .place) ≡ delivery .word) × (vec-len (now (waiting .exit)) + 1 ≡ vec-len (now (waiting .entry)))) ⌝ }
+{
     for at in 0..waiting.len() {
         let letter = waiting[at].letter;
         if letter.ticket == delivery.ticket && word_at(post, letter.place) == delivery.word {
@@ -93,7 +107,9 @@ fn given_back(rt: &LibcRuntime, refused: Refused<Waker>) -> io::Result<()> {
 }
 
 // Spends the token of an order, and wakes nothing.
-fn drop_token(rt: &LibcRuntime, set: &mut Orders<'_>, raw: RawWaker) -> io::Result<()> {
+fn drop_token(rt: &LibcRuntime, set: &mut Orders<'_>, raw: RawWaker) -> io::Result<()>
+    ensures { λ _. ⌜ set-of (now (set .exit)) ≡ step letter-acts (set-of (now (set .entry))) (Drop-call (record { name = raw .name; address = raw .address })) .0 ⌝ }
+{
     match set.drop(Waker::from_raw(raw)) {
         Ok(()) => Ok(()),
         Err(refused) => given_back(rt, refused),
@@ -107,7 +123,9 @@ fn keep_token(
     book: &mut Book,
     letter: Letter,
     address: usize,
-) -> io::Result<()> {
+) -> io::Result<()>
+    ensures { λ r. ⌜ ByOk r (λ _. set-of (now (set .exit)) .out + vec-len (now (book .entry) .waiting) ≡ set-of (now (set .entry)) .out + vec-len (now (book .exit) .waiting)) (λ _. Unit {0}) ⌝ }
+{
     match set.hand(address) {
         Ok(token) => {
             let raw = token.into_raw();
@@ -147,9 +165,12 @@ fn order(
 }
 
 // Puts a word into the post.
-fn put(post: &mut Vec<u64>, place: u64, word: u64) {
-    if let Some(there) = post.get_mut(place as usize) {
-        *there = word;
+fn put(post: &mut Vec<u64>, place: u64, word: u64)
+    ensures { λ _. ⌜ (place < vec-len (now (post .entry)) → vec-items (now (post .exit)) ≡ set-at (vec-items (now (post .entry))) place word) ⌝ }
+{
+    let at = place as usize;
+    if at < post.len() {
+        post[at] = word;
     }
 }
 
