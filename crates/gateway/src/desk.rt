@@ -17,6 +17,7 @@ use sets::futures_unordered_bounded::ending::Ending;
 use sets::memory::Memory;
 use slots::slot::Slot;
 use slots::slot::SlotClone;
+use std::alloc::Global;
 use std::fmt;
 use std::io;
 use tasks::fault::Fault;
@@ -71,6 +72,19 @@ impl fmt::Display for Shown as ShownDisplay {
         let place = self.0.place();
         write!(f, "fault {number}, layer {layer}, place {place}")
     }
+}
+
+// A book with nothing in it; every word of the post is 0.
+fn new_book(heap: Global) -> io::Result<Book> {
+    let post = vec![in heap; 0; script::PLACES]?;
+    let waiting = Vec::new(heap);
+    Ok(Book {
+        post,
+        waiting,
+        accepted: 0,
+        answered: 0,
+        unanswered: 0,
+    })
 }
 
 // Takes out the first order that waits at that place.
@@ -405,15 +419,7 @@ pub fn run(rt: &LibcRuntime) -> io::Result<()> {
         queued: false,
         next: 0
     }; opening.slots]?;
-    let post = vec![in heap; 0u64; script::PLACES]?;
-    let waiting = Vec::new(heap);
-    let mut book = Book {
-        post,
-        waiting,
-        accepted: 0,
-        answered: 0,
-        unanswered: 0,
-    };
+    let mut book = new_book(heap)?;
     let mut set = FuturesUnorderedBounded::new(
         opening.name,
         slots.as_mut_slice(),
