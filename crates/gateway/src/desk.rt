@@ -434,11 +434,11 @@ pub fn run(rt: &LibcRuntime) -> io::Result<()> {
             } = memory;
             println!(rt, "set taken apart")?;
         }
-        Ending::Refused(fault, returned) => {
+        Ending::Refused(fault, unended) => {
             let Memory {
                 slots: _,
                 records: _,
-            } = returned.abandon();
+            } = unended.abandon();
             let shown = Shown(fault);
             println!(rt, "set abandoned: {shown}")?;
         }

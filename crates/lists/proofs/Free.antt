@@ -26,10 +26,10 @@ free-pop marks links x v h free count =
     let clear : getD (set marks h false) h false ≡ false = getD-set-same marks h false false within in
     let anew : Chain (set marks h false) (set links h x) v (getD links h 0) = chain-set (set marks h false) links h x v (getD links h 0) clear rest in
     let still : arrives (set links h x) v (getD links h 0) ≡ length (set marks h false)
-          = arrives-set links h x v (getD links h 0) (first-not-rest marks links v h chain) ∙ ends ∙ sym (length-set marks h false) in
-    ( within
-    , subst (λ n. Chain (set marks h false) (set links h x) n (getD links h 0) × (arrives (set links h x) n (getD links h 0) ≡ length (set marks h false)))
-        (sym (rest .2)) (anew, still)
+    = arrives-set links h x v (getD links h 0) (first-not-rest marks links v h chain) ∙ ends ∙ sym (length-set marks h false) in (
+      within,
+      subst (λ n. Chain (set marks h false) (set links h x) n (getD links h 0) × (arrives (set links h x) n (getD links h 0) ≡ length (set marks h false)))
+          (sym (rest .2)) (anew, still),
     )
 
 -- a place is freed, and comes first
@@ -42,7 +42,7 @@ free-push marks links i h free clear within linked =
     let more : Chain (set marks i true) (set links i h) (suc n) i = chain-front marks (set links i h) i n h clear within to anew in
     let out : member i (walk links n h) ≡ false = sym (free .0 .0 i) ∙ clear in
     let ends : arrives (set links i h) (suc n) i ≡ length (set marks i true)
-          = ap (λ k. arrives (set links i h) n k) to ∙ arrives-set links i h n h out ∙ free .1 ∙ sym (length-set marks i true) in
+    = ap (λ k. arrives (set links i h) n k) to ∙ arrives-set links i h n h out ∙ free .1 ∙ sym (length-set marks i true) in
     subst (λ m. Chain (set marks i true) (set links i h) m i × (arrives (set links i h) m i ≡ length (set marks i true)))
     (sym (more .2)) (more, ends)
 
@@ -86,7 +86,7 @@ count-counting a zero = refl
 count-counting a (suc n) =
     let c : countBy (λ b. b) (map (λ i. true) (counting (a + 1) n)) ≡ n = count-counting (a + 1) n in
     let s : countBy (λ b. b) (true ∷ map (λ i. true) (counting (a + 1) n)) ≡ 1 + countBy (λ b. b) (map (λ i. true) (counting (a + 1) n))
-          = sumBy-cons (λ (b : Bool). cond b 1 0) true (map (λ i. true) (counting (a + 1) n)) in
+    = sumBy-cons (λ (b : Bool). cond b 1 0) true (map (λ i. true) (counting (a + 1) n)) in
     omega (arith, s, c)
 
 pub free-fresh : (n : ℕ) → Free (map (λ i. true) (counting 0 n)) (map (λ i. i + 1) (counting 0 n)) 0
@@ -99,10 +99,11 @@ free-fresh n =
     let all : countBy (λ b. b) marks ≡ n = count-counting 0 n in
     let m : Marks marks (counting 0 n) = λ j. let same : 0 + j ≡ j = omega arith in marks-counting 0 n j ∙ ap (λ k. member k (counting 0 n)) same in
     let ends : arrives links n 0 ≡ length marks = let to : 0 + n ≡ n = omega arith in arrives-counting links n n 0 linked fits ∙ to ∙ sym (length-map-counting (λ i. true) 0 n) in
-    subst (λ k. Chain marks links k 0 × (arrives links k 0 ≡ length marks)) (sym all)
-    ( ( subst (λ is. Marks marks is) (sym way) m
-      , ap distinct way ∙ distinct-counting 0 n
-      , all
-      )
-    , ends
+    subst (λ k. Chain marks links k 0 × (arrives links k 0 ≡ length marks)) (sym all) (
+      (
+        subst (λ is. Marks marks is) (sym way) m,
+        ap distinct way ∙ distinct-counting 0 n,
+        all,
+      ),
+      ends,
     )

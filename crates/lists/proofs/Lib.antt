@@ -1,3 +1,4 @@
 pub mod Free
 pub mod MemoryParts
+pub mod QueueFacts
 pub mod Walks

@@ -28,11 +28,11 @@ pub put-part : {X : Type 0} (xs ys : List X) (a e : ℕ) → a ≤ e → e ≤ l
     → Put xs ys (putMid a (e - a) xs ys) a e
 put-part xs ys a e ae within same =
     let long : length ys ≡ e - a = same ∙ length-between xs a e within in
-    record
-    { before = take-putMid-below a (e - a) xs ys a (omega arith) (omega arith)
-    ; part = between-putMid a (e - a) xs ys e (omega arith) long
-    ; beyond = drop-putMid a (e - a) xs ys e (omega arith) (omega arith) long
-    ; long = simp (length-append, length-take, length-drop) (omega arith)
+    record {
+      before = take-putMid-below a (e - a) xs ys a (omega arith) (omega arith);
+      part = between-putMid a (e - a) xs ys e (omega arith) long;
+      beyond = drop-putMid a (e - a) xs ys e (omega arith) (omega arith) long;
+      long = simp (length-append, length-take, length-drop) (omega arith);
     }
 
 -- the element of a part is the one of the memory
@@ -58,8 +58,8 @@ given xs a e ae within =
     let first : length (take a xs) ≡ a = length-take-le a xs (omega arith) in
     let mid : length (between a e xs) ≡ e - a = length-between xs a e within in
     let sum : length (take a xs) + length (between a e xs) ≡ e = omega (arith, first, mid) in
-    record
-    { before = ap (λ n. take n xs) first
-    ; beyond = ap (λ n. drop n xs) sum
-    ; long = omega (arith, sum, length-drop e xs)
+    record {
+      before = ap (λ n. take n xs) first;
+      beyond = ap (λ n. drop n xs) sum;
+      long = omega (arith, sum, length-drop e xs);
     }

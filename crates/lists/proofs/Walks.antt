@@ -60,7 +60,7 @@ marks-rest : (marks : List Bool) (h : ℕ) (is : List ℕ) → Marks marks (h �
 marks-rest marks h is m out i =
     ⊎-elim
     (λ e. subst (λ k. getD (set marks h false) k false ≡ member k is) (sym e)
-        (getD-set-same marks h false false (marked-within marks h (m h ∙ or-left (eqb h h) (member h is) (eq-eqb h h refl))) ∙ sym out))
+    (getD-set-same marks h false false (marked-within marks h (m h ∙ or-left (eqb h h) (member h is) (eq-eqb h h refl))) ∙ sym out))
     (λ ne. getD-set-other marks h i false false ne ∙ m i ∙ ap (λ b. b || member i is) (ne-eqb i h ne))
     (cases-eq i h)
 
@@ -69,11 +69,11 @@ marks-more : (marks : List Bool) (h : ℕ) (is : List ℕ) → Marks marks is �
 marks-more marks h is m lt i =
     ⊎-elim
     (λ e. subst (λ k. getD (set marks h true) k false ≡ (eqb k h || member k is)) (sym e)
-        (getD-set-same marks h true false lt ∙ sym (or-left (eqb h h) (member h is) (eq-eqb h h refl))))
+    (getD-set-same marks h true false lt ∙ sym (or-left (eqb h h) (member h is) (eq-eqb h h refl))))
     (λ ne. getD-set-other marks h i true false ne ∙ m i ∙ sym (ap (λ b. b || member i is) (ne-eqb i h ne)))
     (cases-eq i h)
 
-distinct-parts : (h : ℕ) (is : List ℕ) → distinct (h ∷ is) ≡ true → (member h is ≡ false) × (distinct is ≡ true)
+pub distinct-parts : (h : ℕ) (is : List ℕ) → distinct (h ∷ is) ≡ true → (member h is ≡ false) × (distinct is ≡ true)
 distinct-parts h is d =
     let p : (not (member h is) ≡ true) × (distinct is ≡ true) = and-parts (not (member h is)) (distinct is) d in
     (not-true (member h is) (p .0), p .1)
@@ -88,10 +88,10 @@ first-within marks links n h c = marked-within marks h (first-marked marks links
 -- a chain without its first place
 pub chain-rest : (marks : List Bool) (links : List ℕ) (n h : ℕ) → Chain marks links (suc n) h → Chain (set marks h false) links n (getD links h 0)
 chain-rest marks links n h c =
-    let p : (member h (walk links n (getD links h 0)) ≡ false) × (distinct (walk links n (getD links h 0)) ≡ true) = distinct-parts h (walk links n (getD links h 0)) (c .1) in
-    ( marks-rest marks h (walk links n (getD links h 0)) (c .0) (p .0)
-    , p .1
-    , count-clear marks h n (first-marked marks links n h c) (c .2)
+    let p : (member h (walk links n (getD links h 0)) ≡ false) × (distinct (walk links n (getD links h 0)) ≡ true) = distinct-parts h (walk links n (getD links h 0)) (c .1) in (
+      marks-rest marks h (walk links n (getD links h 0)) (c .0) (p .0),
+      p .1,
+      count-clear marks h n (first-marked marks links n h c) (c .2),
     )
 
 -- the first place is no later one
@@ -101,20 +101,20 @@ first-not-rest marks links n h c = distinct-parts h (walk links n (getD links h 
 -- a place that is not marked may be linked anew
 pub chain-set : (marks : List Bool) (links : List ℕ) (i x n h : ℕ) → getD marks i false ≡ false → Chain marks links n h → Chain marks (set links i x) n h
 chain-set marks links i x n h e c =
-    let same : walk (set links i x) n h ≡ walk links n h = walk-set links i x n h (sym (c .0 i) ∙ e) in
-    ( subst (λ is. Marks marks is) (sym same) (c .0)
-    , ap distinct same ∙ c .1
-    , c .2
+    let same : walk (set links i x) n h ≡ walk links n h = walk-set links i x n h (sym (c .0 i) ∙ e) in (
+      subst (λ is. Marks marks is) (sym same) (c .0),
+      ap distinct same ∙ c .1,
+      c .2,
     )
 
 -- a place more in front
 pub chain-front : (marks : List Bool) (links : List ℕ) (i n h : ℕ) → getD marks i false ≡ false → i < length marks → getD links i 0 ≡ h → Chain marks links n h → Chain (set marks i true) links (suc n) i
 chain-front marks links i n h e lt to c =
-    let at : Chain marks links n (getD links i 0) = subst (λ k. Chain marks links n k) (sym to) c in
-    ( marks-more marks i (walk links n (getD links i 0)) (at .0) lt
-    , and-from (not (member i (walk links n (getD links i 0)))) (distinct (walk links n (getD links i 0)))
-        (not-from-false (member i (walk links n (getD links i 0))) (sym (at .0 i) ∙ e)) (at .1)
-    , count-mark marks i n e lt (c .2)
+    let at : Chain marks links n (getD links i 0) = subst (λ k. Chain marks links n k) (sym to) c in (
+      marks-more marks i (walk links n (getD links i 0)) (at .0) lt,
+      and-from (not (member i (walk links n (getD links i 0)))) (distinct (walk links n (getD links i 0)))
+          (not-from-false (member i (walk links n (getD links i 0))) (sym (at .0 i) ∙ e)) (at .1),
+      count-mark marks i n e lt (c .2),
     )
 
 -- the last place of a list is in it
@@ -130,7 +130,7 @@ walk-back links t i zero h lt d last =
 walk-back links t i (suc n) h lt d last =
     let p : (member h (walk links (suc n) (getD links h 0)) ≡ false) × (distinct (walk links (suc n) (getD links h 0)) ≡ true) = distinct-parts h (walk links (suc n) (getD links h 0)) d in
     let other : h ≢ t = λ e. both-ways (member h (walk links (suc n) (getD links h 0))) (p .0)
-          (subst (λ k. member k (walk links (suc n) (getD links h 0)) ≡ true) (last ∙ sym e) (last-member (getD links h 0) (walk links n (getD links (getD links h 0) 0)))) in
+    (subst (λ k. member k (walk links (suc n) (getD links h 0)) ≡ true) (last ∙ sym e) (last-member (getD links h 0) (walk links n (getD links (getD links h 0) 0)))) in
     let same : getD (set links t i) h 0 ≡ getD links h 0 = getD-set-other links t h i 0 other in
     ap (λ k. h ∷ walk (set links t i) (suc (suc n)) k) same
     ∙ ap (λ ks. h ∷ ks) (walk-back links t i n (getD links h 0) lt (p .1) last)
@@ -174,10 +174,10 @@ pub chain-back : (marks : List Bool) (links : List ℕ) (t i n h : ℕ) → getD
 chain-back marks links t i n h e lt within c last =
     let is : List ℕ = walk links (suc n) h in
     let same : walk (set links t i) (suc (suc n)) h ≡ is ++ i ∷ [] = walk-back links t i n h within (c .1) last in
-    let m : Marks (set marks i true) (is ++ i ∷ []) = λ j. marks-more marks i is (c .0) lt j ∙ sym (member-push j i is) in
-    ( subst (λ ks. Marks (set marks i true) ks) (sym same) m
-    , ap distinct same ∙ distinct-push i is (c .1) (sym (c .0 i) ∙ e)
-    , count-mark marks i (suc n) e lt (c .2)
+    let m : Marks (set marks i true) (is ++ i ∷ []) = λ j. marks-more marks i is (c .0) lt j ∙ sym (member-push j i is) in (
+      subst (λ ks. Marks (set marks i true) ks) (sym same) m,
+      ap distinct same ∙ distinct-push i is (c .1) (sym (c .0 i) ∙ e),
+      count-mark marks i (suc n) e lt (c .2),
     )
 
 -- the first and only place

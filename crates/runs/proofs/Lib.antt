@@ -1,0 +1,4 @@
+pub mod KeptRuns
+pub mod TicketRuns
+pub mod TokenRuns
+pub mod WakerRuns

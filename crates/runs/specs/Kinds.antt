@@ -22,25 +22,25 @@ module _ {S P Q T O : Type 0} (k : Kind S P Q T O) where
   abbrev pub step : Step S P Q T O
   step s (push p) = (k .pushed s p, k .accepts s p)
   step s (poll post) = (k .polled s post, k .yields s post)
-  step s (hand a) =
-      ( leaves (hand-fault (k .tokened) s a) s (one-more (k .tokened) s)
-      , answers (hand-fault (k .tokened) s a) a (record { name = k .tokened .name s; address = a })
-      )
-  step s (clone t) =
-      ( leaves (clone-fault (k .tokened) s t) s (one-more (k .tokened) s)
-      , answers-lent (clone-fault (k .tokened) s t) t
-      )
-  step s (wake t) =
-      ( leaves (spend-fault (k .tokened) s t) s (one-less (k .tokened) (k .tokened .woken s (t .address)))
-      , answers (spend-fault (k .tokened) s t) t (k .tokened .notices s (t .address))
-      )
-  step s (wake-by-ref t) =
-      ( leaves (spend-fault (k .tokened) s t) s (k .tokened .woken s (t .address))
-      , answers-lent (spend-fault (k .tokened) s t) (k .tokened .notices s (t .address))
-      )
-  step s (drop t) =
-      ( leaves (spend-fault (k .tokened) s t) s (one-less (k .tokened) s)
-      , answers (spend-fault (k .tokened) s t) t tt
-      )
+  step s (hand a) = (
+    leaves (hand-fault (k .tokened) s a) s (one-more (k .tokened) s),
+    answers (hand-fault (k .tokened) s a) a (record { name = k .tokened .name s; address = a }),
+  )
+  step s (clone t) = (
+    leaves (clone-fault (k .tokened) s t) s (one-more (k .tokened) s),
+    answers-lent (clone-fault (k .tokened) s t) t,
+  )
+  step s (wake t) = (
+    leaves (spend-fault (k .tokened) s t) s (one-less (k .tokened) (k .tokened .woken s (t .address))),
+    answers (spend-fault (k .tokened) s t) t (k .tokened .notices s (t .address)),
+  )
+  step s (wake-by-ref t) = (
+    leaves (spend-fault (k .tokened) s t) s (k .tokened .woken s (t .address)),
+    answers-lent (spend-fault (k .tokened) s t) (k .tokened .notices s (t .address)),
+  )
+  step s (drop t) = (
+    leaves (spend-fault (k .tokened) s t) s (one-less (k .tokened) s),
+    answers (spend-fault (k .tokened) s t) t tt,
+  )
   step s may-end = (s, answers-lent (end-fault (k .tokened) s) tt)
   step s (ask q) = (s, k .number s q)

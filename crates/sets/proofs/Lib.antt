@@ -1,1 +1,3 @@
+pub mod BoundedLaws
+pub mod FairPolls
 pub mod Polling

@@ -66,7 +66,6 @@ module _ {F A : Type 0} (acts : Acts F A) (post : List ℕ) where
       (listens : start ≡ with-group entry (registered acts post (group-in entry)))
       (around : here ≡ with-group start (group-in here))
       (so-far : polling acts post (61 - t) n t (group-in here) ≡ polling acts post 61 0 0 (group-in start)) where
-
     whole : found acts post (group-in entry) ≡ polling acts post (61 - t) n t (group-in here)
     whole = ap (λ b. found-if acts post b (group-in entry)) some ∙ ap (λ s. polling acts post 61 0 0 (group-in s)) (sym listens) ∙ sym so-far
 
@@ -82,11 +81,11 @@ module _ {F A : Type 0} (acts : Acts F A) (post : List ℕ) where
     ends end r a lt is to gives =
         let g : Group F = group-in here in
         let o : found acts post (group-in entry) ≡ record { answer = a; group = turn acts post g .1 }
-              = whole ∙ polling-step t n g lt
-              ∙ ap (λ x. after-turn acts post (λ h more. polling acts post (61 - (t + 1)) more (t + 1) h) n t x (turn acts post g .1)) (sym is)
-              ∙ gives in
-        ( sym (ap (λ (x : Outcome F (Found A)). x .answer) o)
-        , to ∙ outer (turn acts post g .1) ∙ ap (λ (x : Outcome F (Found A)). with-group entry (x .group)) (sym o)
+        = whole ∙ polling-step t n g lt
+        ∙ ap (λ x. after-turn acts post (λ h more. polling acts post (61 - (t + 1)) more (t + 1) h) n t x (turn acts post g .1)) (sym is)
+        ∙ gives in (
+          sym (ap (λ (x : Outcome F (Found A)). x .answer) o),
+          to ∙ outer (turn acts post g .1) ∙ ap (λ (x : Outcome F (Found A)). with-group entry (x .group)) (sym o),
         )
 
     -- it goes on after a turn that gives no answer
@@ -95,11 +94,11 @@ module _ {F A : Type 0} (acts : Acts F A) (post : List ℕ) where
         × (polling acts post (61 - (t + 1)) (n + more) (t + 1) (group-in next) ≡ polling acts post 61 0 0 (group-in start))
     goes-on next more lt is to =
         let g : Group F = group-in here in
-        let there : group-in next ≡ turn acts post g .1 = ap group-in to in
-        ( to ∙ ap (λ s. with-group s (turn acts post g .1)) around ∙ ap (λ k. with-group start k) (sym there)
-        , ap (λ k. polling acts post (61 - (t + 1)) (n + more) (t + 1) k) there
-          ∙ ap (λ x. after-turn acts post (λ h m. polling acts post (61 - (t + 1)) m (t + 1) h) n t x (turn acts post g .1)) is
-          ∙ sym (polling-step t n g lt) ∙ so-far
+        let there : group-in next ≡ turn acts post g .1 = ap group-in to in (
+          to ∙ ap (λ s. with-group s (turn acts post g .1)) around ∙ ap (λ k. with-group start k) (sym there),
+          ap (λ k. polling acts post (61 - (t + 1)) (n + more) (t + 1) k) there
+              ∙ ap (λ x. after-turn acts post (λ h m. polling acts post (61 - (t + 1)) m (t + 1) h) n t x (turn acts post g .1)) is
+              ∙ sym (polling-step t n g lt) ∙ so-far,
         )
 
     -- it ends with no turn left
@@ -110,7 +109,7 @@ module _ {F A : Type 0} (acts : Acts F A) (post : List ℕ) where
     runs-out all =
         let none : 61 - t ≡ 0 = omega arith in
         let o : found acts post (group-in entry) ≡ record { answer = record { poll = Pending; notices = n + 1; turns = t }; group = group-in here }
-              = whole ∙ ap (λ k. polling acts post k n t (group-in here)) none in
-        ( sym (ap (λ (x : Outcome F (Found A)). x .answer) o)
-        , around ∙ ap (λ s. with-group s (group-in here)) listens ∙ ap (λ (x : Outcome F (Found A)). with-group entry (x .group)) (sym o)
+        = whole ∙ ap (λ k. polling acts post k n t (group-in here)) none in (
+          sym (ap (λ (x : Outcome F (Found A)). x .answer) o),
+          around ∙ ap (λ s. with-group s (group-in here)) listens ∙ ap (λ (x : Outcome F (Found A)). with-group entry (x .group)) (sym o),
         )

@@ -10,30 +10,29 @@ use Rattle.sets.specs.Ground.{ground, group-in, Sound, From-start}
 use Rattle.sets.specs.declared.futures_unordered_bounded.FuturesUnorderedBounded.{FuturesUnorderedBounded}
 use Rattle.sets.specs.declared.futures_unordered_bounded.ending.Ending.{Ending}
 use Rattle.sets.specs.declared.futures_unordered_bounded.ending.Ending.the-variants.{Ended, Refused}
-use Rattle.sets.specs.declared.futures_unordered_bounded.ending.Returned.{Returned}
+use Rattle.sets.specs.declared.futures_unordered_bounded.ending.Unended.{Unended}
 use Rattle.std.specs.declared.option.Option.the-variants.{Some, None}
 
 abbrev pub set-of : {F : Type 0} → FuturesUnorderedBounded F → Bounded F
-set-of s = record
-    { name = s .name
-    ; out = s .tokens
-    ; group = group-in (ground (s .group))
-    ; slots-beyond = ground (s .group) .tasks .beyond
-    ; records-beyond = ground (s .group) .shared .beyond
-    }
+set-of s = record {
+  name = s .name;
+  out = s .tokens;
+  group = group-in (ground (s .group));
+  slots-beyond = ground (s .group) .tasks .beyond;
+  records-beyond = ground (s .group) .shared .beyond;
+}
 
--- What was handed back, as the set that it was.
-abbrev pub returned : {F : Type 0} → Returned F → Bounded F
-returned e = record
-    { name = e .name
-    ; out = e .tokens
-    ; group = group-in (ground (e .group))
-    ; slots-beyond = ground (e .group) .tasks .beyond
-    ; records-beyond = ground (e .group) .shared .beyond
-    }
+-- A set that was not taken apart, as the set that it was, and what it keeps, so that it can be a set again.
+abbrev pub unended : {F : Type 0} → Unended F → Bounded F
+unended e = record {
+  name = e .name;
+  out = e .tokens;
+  group = group-in (ground (e .group));
+  slots-beyond = ground (e .group) .tasks .beyond;
+  records-beyond = ground (e .group) .shared .beyond;
+}
 
--- It can be a set again.
-abbrev pub Whole : {F : Type 0} → Returned F → Type 0
+abbrev pub Whole : {F : Type 0} → Unended F → Type 0
 Whole e = Sound (e .group) × From-start (e .group) × (e .tokens ≤ 65535)
 
 -- A set that may end gives its memory back: the slots as they are, and the wake memory beyond its part as it was. One
@@ -44,4 +43,4 @@ Taken-apart s (Ended m) =
     × (now (m .slots) ≡ slots-of s ++ s .slots-beyond)
     × (drop (length (slots-of s)) (now (m .records)) ≡ s .records-beyond)
     × (length (now (m .records)) ≡ length (slots-of s) + length (s .records-beyond))
-Taken-apart s (Refused f e) = (end-fault tokened s ≡ Some f) × (returned e ≡ s) × Whole e
+Taken-apart s (Refused f e) = (end-fault tokened s ≡ Some f) × (unended e ≡ s) × Whole e

@@ -20,10 +20,10 @@ ground t = record { tasks = slots.held (t .tasks); shared = wakes.held (t .share
 
 -- A fresh group in the part from a to e of both memories.
 abbrev pub fresh-ground : {F : Type 0} → List (Slot F) → List WakeRecord → ℕ → ℕ → Ground F
-fresh-ground ss rs a e = record
-    { tasks = record { before = take a ss; table = fresh (e - a) .table; beyond = drop e ss }
-    ; shared = record { before = take a rs; places = e - a; wakes = fresh {F = Unit {0}} (e - a) .wakes; beyond = drop e rs }
-    }
+fresh-ground ss rs a e = record {
+  tasks = record { before = take a ss; table = fresh (e - a) .table; beyond = drop e ss };
+  shared = record { before = take a rs; places = e - a; wakes = fresh {F = Unit {0}} (e - a) .wakes; beyond = drop e rs };
+}
 
 abbrev pub group-in : {F : Type 0} → Ground F → Group F
 group-in g = record { table = g .tasks .table; wakes = g .shared .wakes }

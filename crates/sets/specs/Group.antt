@@ -30,13 +30,13 @@ fresh n = record { table = table.fresh n; wakes = wakes.fresh }
 
 -- A push inserts the task and enqueues its slot without a notice. Nothing happens if no slot is vacant.
 abbrev pub joined : {F : Type 0} → Group F → F → Group F
-joined g f = record
-    { table = inserted (g .table) f
-    ; wakes = record
-        { waiting = cond (full (g .table .slots)) (g .wakes .waiting) (enqueued (g .wakes .waiting) (g .table .head))
-        ; registered = g .wakes .registered
-        }
-    }
+joined g f = record {
+  table = inserted (g .table) f;
+  wakes = record {
+    waiting = cond (full (g .table .slots)) (g .wakes .waiting) (enqueued (g .wakes .waiting) (g .table .head));
+    registered = g .wakes .registered;
+  };
+}
 
 -- What a poll of the group answered, and the group after it.
 pub record Outcome (F A : Type 0) : Type 0 where
@@ -49,18 +49,18 @@ woken-at g i = record { table = g .table; wakes = woken (g .wakes) i }
 
 -- A slot is woken if its task woke itself.
 abbrev pub woken-if : Bool → Wakes → ℕ → Wakes
-woken-if woke w i = record
-    { waiting = cond woke (woken w i .waiting) (w .waiting)
-    ; registered = cond woke (woken w i .registered) (w .registered)
-    }
+woken-if woke w i = record {
+  waiting = cond woke (woken w i .waiting) (w .waiting);
+  registered = cond woke (woken w i .registered) (w .registered);
+}
 
 module _ {F A : Type 0} (acts : Acts F A) (post : List ℕ) where
   -- What a poll of the task f, in slot i, leaves: the task after the poll, and the slot woken if the task woke itself.
   abbrev pub served : Group F → ℕ → F → Group F
-  served g i f = record
-      { table = record { slots = set (g .table .slots) i (Occupied (acts .after f post)); head = g .table .head }
-      ; wakes = woken-if (acts .wakes f post) (g .wakes) i
-      }
+  served g i f = record {
+    table = record { slots = set (g .table .slots) i (Occupied (acts .after f post)); head = g .table .head };
+    wakes = woken-if (acts .wakes f post) (g .wakes) i;
+  }
 
   -- The notices of that self-wake.
   abbrev pub self-notice : Group F → ℕ → F → ℕ
@@ -103,14 +103,14 @@ module _ {F A : Type 0} (acts : Acts F A) (post : List ℕ) where
   registered g = record { table = g .table; wakes = listening (g .wakes) }
 
   abbrev pub found-if : Bool → Group F → Outcome F (Found A)
-  found-if empty g = record
-      { answer = record
-          { poll = cond empty (Ready None) (polling 61 0 0 (registered g) .answer .poll)
-          ; notices = cond empty 0 (polling 61 0 0 (registered g) .answer .notices)
-          ; turns = cond empty 0 (polling 61 0 0 (registered g) .answer .turns)
-          }
-      ; group = cond empty g (polling 61 0 0 (registered g) .group)
-      }
+  found-if empty g = record {
+    answer = record {
+      poll = cond empty (Ready None) (polling 61 0 0 (registered g) .answer .poll);
+      notices = cond empty 0 (polling 61 0 0 (registered g) .answer .notices);
+      turns = cond empty 0 (polling 61 0 0 (registered g) .answer .turns);
+    };
+    group = cond empty g (polling 61 0 0 (registered g) .group);
+  }
 
   abbrev pub found : Group F → Outcome F (Found A)
   found g = found-if (eqb (len (g .table .slots)) 0) g
@@ -127,10 +127,10 @@ module _ {F A : Type 0} (acts : Acts F A) (post : List ℕ) where
   vacated g (Ready (Some f)) = record { table = removed (g .table) (f .slot); wakes = g .wakes }
 
   abbrev pub finishing : Outcome F (Found A) → Outcome F A
-  finishing o = record
-      { answer = record { poll = output-of (o .answer .poll); notices = o .answer .notices; turns = o .answer .turns }
-      ; group = vacated (o .group) (o .answer .poll)
-      }
+  finishing o = record {
+    answer = record { poll = output-of (o .answer .poll); notices = o .answer .notices; turns = o .answer .turns };
+    group = vacated (o .group) (o .answer .poll);
+  }
 
   abbrev pub polled : Group F → Outcome F A
   polled g = finishing (found g)

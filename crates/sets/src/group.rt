@@ -38,16 +38,17 @@ fn self_wake<'a>(shared: &mut WakerList<'a>, slot: usize, woken: bool) -> u32
     ensures after { λ _. ⌜ wakes-held (now (shared .exit)) ≡ with-wakes (wakes-held (now (shared .entry))) (woken-if «woken» (wakes-held (now (shared .entry)) .wakes) slot) ⌝ }
     ensures sound { λ _. ⌜ SoundWakes (now (shared .exit)) ⌝ }
 {
-    if woken {
-        shared.wake(slot)
-    } else {
-        0
-    }
+    if woken { shared.wake(slot) } else { 0 }
 }
 
 impl<'a, F: Copy> TaskGroup<'a, F> {
     // A fresh group in the part from `start` to `end` of both memories.
-    pub fn new(slots: &'a mut [Slot<F>], records: &'a mut [WakeRecord], start: usize, end: usize) -> TaskGroup<'a, F>
+    pub fn new(
+        slots: &'a mut [Slot<F>],
+        records: &'a mut [WakeRecord],
+        start: usize,
+        end: usize,
+    ) -> TaskGroup<'a, F>
         requires { ⌜ start ≤ end ⌝ ∗ ⌜ end ≤ length (now slots) ⌝ ∗ ⌜ end ≤ length (now records) ⌝ }
         ensures fresh { λ r. ⌜ ground r ≡ fresh-ground (now (slots .entry)) (now (records .entry)) start end ⌝ }
         ensures sound { λ r. ⌜ Sound r ⌝ }
@@ -122,6 +123,17 @@ impl<'a, F: Copy> TaskGroup<'a, F> {
         Memory { slots, records }
     }
 
+    // The memory, whatever it holds.
+    pub fn into_memory(self) -> Memory<'a, F>
+        ensures slots { λ r. ⌜ now (r .slots) ≡ now (self .entry .tasks .slots) ⌝ }
+        ensures records { λ r. ⌜ now (r .records) ≡ now (self .entry .shared .records) ⌝ }
+    {
+        let TaskGroup { tasks, shared } = self;
+        let slots = tasks.take_apart();
+        let records = shared.take_apart();
+        Memory { slots, records }
+    }
+
     // Takes one slot from the queue, and polls its task.
     fn turn<P: PollFn<F>>(&mut self, post: &[u64]) -> Turn<P::Answer>
         requires { ⌜ Sound (now self) ⌝ }
@@ -146,27 +158,46 @@ impl<'a, F: Copy> TaskGroup<'a, F> {
     }
 
     // Takes turns until a task gives an answer, and leaves that task in its slot.
-    pub fn poll_inner_no_remove<P: PollFn<F>>(&mut self, post: &[u64]) -> Polled<Option<Found<P::Answer>>>
+    pub fn poll_inner_no_remove<P: PollFn<F>>(
+        &mut self,
+        post: &[u64],
+    ) -> Polled<Option<Found<P::Answer>>>
         requires { ⌜ Sound (now self) ⌝ }
         ensures answer { λ r. ⌜ r ≡ found (P·PollFn .acts) (now (post .entry)) (group-in (ground (now (self .entry)))) .answer ⌝ }
         ensures after { λ _. ⌜ ground (now (self .exit)) ≡ with-group (ground (now (self .entry))) (found (P·PollFn .acts) (now (post .entry)) (group-in (ground (now (self .entry)))) .group) ⌝ }
         ensures sound { λ _. ⌜ Sound (now (self .exit)) ⌝ }
     {
         if self.tasks.len() == 0 {
-            return Polled { poll: Poll::Ready(None), notices: 0, turns: 0 };
+            return Polled {
+                poll: Poll::Ready(None),
+                notices: 0,
+                turns: 0,
+            };
         }
         self.shared.register();
         let mut notices = 0;
         for turns in 0..MAX {
             match self.turn::<P>(post) {
-                Turn::Idle => return Polled { poll: Poll::Pending, notices, turns },
+                Turn::Idle => return Polled {
+                    poll: Poll::Pending,
+                    notices,
+                    turns,
+                },
                 Turn::Served(more) => notices += more,
                 Turn::Gave(more, slot, answer) => {
-                    return Polled { poll: Poll::Ready(Some(Found { slot, answer })), notices: notices + more, turns: turns + 1 };
+                    return Polled {
+                        poll: Poll::Ready(Some(Found { slot, answer })),
+                        notices: notices + more,
+                        turns: turns + 1,
+                    };
                 }
             }
         }
-        Polled { poll: Poll::Pending, notices: notices + 1, turns: MAX }
+        Polled {
+            poll: Poll::Pending,
+            notices: notices + 1,
+            turns: MAX,
+        }
     }
 }
 
@@ -178,17 +209,33 @@ impl<'a, F: Future + Copy> TaskGroup<'a, F> {
         ensures after { λ _. ⌜ ground (now (self .exit)) ≡ with-group (ground (now (self .entry))) (polled (F·Future .acts) (now (post .entry)) (group-in (ground (now (self .entry)))) .group) ⌝ }
         ensures sound { λ _. ⌜ Sound (now (self .exit)) ⌝ }
     {
-        let Polled { poll, notices, turns } = self.poll_inner_no_remove::<ByFuture>(post);
+        let Polled {
+            poll,
+            notices,
+            turns,
+        } = self.poll_inner_no_remove::<ByFuture>(post);
         match poll {
             Poll::Ready(ready) => match ready {
                 Some(found) => {
                     let Found { slot, answer } = found;
                     self.tasks.remove(slot);
-                    Polled { poll: Poll::Ready(Some(answer)), notices, turns }
+                    Polled {
+                        poll: Poll::Ready(Some(answer)),
+                        notices,
+                        turns,
+                    }
                 }
-                None => Polled { poll: Poll::Ready(None), notices, turns },
+                None => Polled {
+                    poll: Poll::Ready(None),
+                    notices,
+                    turns,
+                },
             },
-            Poll::Pending => Polled { poll: Poll::Pending, notices, turns },
+            Poll::Pending => Polled {
+                poll: Poll::Pending,
+                notices,
+                turns,
+            },
         }
     }
 }

@@ -75,6 +75,7 @@ module _ {F : Type 0} where
     pub chained : Chained (set slots head (Occupied f)) (next-in (nth slots head))
     pub counted : len (set slots head (Occupied f)) ≡ len slots + 1
     pub room : len slots < length slots
+    pub was-vacant : vacant (getD slots head (NextFree 0)) ≡ true
 
   pub insert-chained : (slots : List (Slot F)) (head : ℕ) (f : F) → Chained slots head → full slots ≡ false → Inserts slots head f
   unfolding vacancies
@@ -84,21 +85,22 @@ module _ {F : Type 0} where
       let v : ℕ = length slots - len slots - 1 in
       let some : vacancies slots ≡ suc v = omega (arith, sum, differ) in
       let p : (head < length (map vacant slots)) × Free (set (map vacant slots) head false) (set (map next slots) head 0) (getD (map next slots) head 0)
-            = free-pop (map vacant slots) (map next slots) 0 v head chained some in
+      = free-pop (map vacant slots) (map next slots) 0 v head chained some in
       let lt : head < length slots = subst (λ n. head < n) (length-map slots vacant) (p .0) in
       let was : vacant (getD slots head (NextFree 0)) ≡ true
-            = sym (vacant-at slots head lt) ∙ first-marked (map vacant slots) (map next slots) v head (subst (λ n. Chain (map vacant slots) (map next slots) n head) some (chained .0)) in
+      = sym (vacant-at slots head lt) ∙ first-marked (map vacant slots) (map next slots) v head (subst (λ n. Chain (map vacant slots) (map next slots) n head) some (chained .0)) in
       let marks : set (map vacant slots) head false ≡ map vacant (set slots head (Occupied f)) = sym (map-set vacant slots head (Occupied f)) in
       let links : set (map next slots) head 0 ≡ map next (set slots head (Occupied f)) = sym (map-set next slots head (Occupied f)) in
       let counts : len (set slots head (Occupied f)) + cond (not (vacant (getD slots head (NextFree 0)))) 1 0 ≡ len slots + 1 = len-set slots head (Occupied f) lt in
       let zero-was : _≡_ {A = ℕ} (cond (not (vacant (getD slots head (NextFree 0)))) 1 0) 0 = ap (λ (b : Bool). cond (not b) 1 0) was in
-      record
-      { within = lt
-      ; chained = subst (λ h. Chained (set slots head (Occupied f)) h) (next-at slots head lt)
+      record {
+        within = lt;
+        chained = subst (λ h. Chained (set slots head (Occupied f)) h) (next-at slots head lt)
             (subst (λ ms. Free ms (map next (set slots head (Occupied f))) (getD (map next slots) head 0)) marks
-            (subst (λ ls. Free (set (map vacant slots) head false) ls (getD (map next slots) head 0)) links (p .1)))
-      ; counted = omega (arith, counts, zero-was)
-      ; room = omega (arith, sum, some)
+            (subst (λ ls. Free (set (map vacant slots) head false) ls (getD (map next slots) head 0)) links (p .1)));
+        counted = omega (arith, counts, zero-was);
+        room = omega (arith, sum, some);
+        was-vacant = was;
       }
 
   pub full-head : (slots : List (Slot F)) (head : ℕ) → Chained slots head → full slots ≡ true → head ≡ length slots
@@ -126,12 +128,12 @@ module _ {F : Type 0} where
       let links : set (map next slots) i head ≡ map next (set slots i (NextFree head)) = sym (map-set next slots i (NextFree head)) in
       let counts : len (set slots i (NextFree head)) + cond (not (vacant (getD slots i (NextFree 0)))) 1 0 ≡ len slots + 0 = len-set slots i (NextFree head) lt in
       let one-was : _≡_ {A = ℕ} (cond (not (vacant (getD slots i (NextFree 0)))) 1 0) 1 = ap (λ (b : Bool). cond (not b) 1 0) was in
-      record
-      { within = lt
-      ; chained = subst (λ ms. Free ms (map next (set slots i (NextFree head))) i) marks
+      record {
+        within = lt;
+        chained = subst (λ ms. Free ms (map next (set slots i (NextFree head))) i) marks
             (subst (λ ls. Free (set (map vacant slots) i true) ls i) links
-            (free-push (map vacant slots) (map next slots) i head chained clear lt-marks lt-links))
-      ; counted = omega (arith, counts, one-was)
+            (free-push (map vacant slots) (map next slots) i head chained clear lt-marks lt-links));
+        counted = omega (arith, counts, one-was);
       }
 
   -- another task in an occupied slot
@@ -148,17 +150,17 @@ module _ {F : Type 0} where
       let lt : i < length slots = occupied-within slots i there in
       let was : vacant (getD slots i (NextFree 0)) ≡ false = occupied-not-vacant slots i there in
       let marks : map vacant (set slots i (Occupied f)) ≡ map vacant slots
-            = map-set vacant slots i (Occupied f) ∙ ap (λ b. set (map vacant slots) i b) (sym (vacant-at slots i lt ∙ was)) ∙ set-getD (map vacant slots) i false in
+      = map-set vacant slots i (Occupied f) ∙ ap (λ b. set (map vacant slots) i b) (sym (vacant-at slots i lt ∙ was)) ∙ set-getD (map vacant slots) i false in
       let links : map next (set slots i (Occupied f)) ≡ map next slots
-            = map-set next slots i (Occupied f)
-            ∙ ap (λ n. set (map next slots) i n) (sym (getD-map next slots i (NextFree 0) 0 lt ∙ same-next (getD slots i (NextFree 0)) was))
-            ∙ set-getD (map next slots) i 0 in
+      = map-set next slots i (Occupied f)
+      ∙ ap (λ n. set (map next slots) i n) (sym (getD-map next slots i (NextFree 0) 0 lt ∙ same-next (getD slots i (NextFree 0)) was))
+      ∙ set-getD (map next slots) i 0 in
       let counts : len (set slots i (Occupied f)) + cond (not (vacant (getD slots i (NextFree 0)))) 1 0 ≡ len slots + 1 = len-set slots i (Occupied f) lt in
       let one-was : _≡_ {A = ℕ} (cond (not (vacant (getD slots i (NextFree 0)))) 1 0) 1 = ap (λ (b : Bool). cond (not b) 1 0) was in
-      record
-      { chained = subst (λ ms. Free ms (map next (set slots i (Occupied f))) head) (sym marks)
-            (subst (λ ls. Free (map vacant slots) ls head) (sym links) chained)
-      ; counted = omega (arith, counts, one-was)
+      record {
+        chained = subst (λ ms. Free ms (map next (set slots i (Occupied f))) head) (sym marks)
+            (subst (λ ls. Free (map vacant slots) ls head) (sym links) chained);
+        counted = omega (arith, counts, one-was);
       }
 
 -- a fresh table

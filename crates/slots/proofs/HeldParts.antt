@@ -38,7 +38,7 @@ module _ {F : Type 0} where
 
   held-same : (b b′ p p′ d d′ : List (Slot F)) (head : ℕ) → b ≡ b′ → p ≡ p′ → d ≡ d′
       → _≡_ {A = Held F} (record { before = b; table = record { slots = p; head = head }; beyond = d })
-        (record { before = b′; table = record { slots = p′; head = head }; beyond = d′ })
+      (record { before = b′; table = record { slots = p′; head = head }; beyond = d′ })
   held-same b b′ p p′ d d′ head eb ep ed = cc
 
   pub change-part : (xs ys : List (Slot F)) (a e head filled : ℕ) → a ≤ e → e ≤ length xs → length ys ≡ length (between a e xs)
@@ -46,14 +46,14 @@ module _ {F : Type 0} where
   change-part xs ys a e head filled ae within same chained counted =
       let zs : List (Slot F) = putMid a (e - a) xs ys in
       let put : Put xs ys zs a e = put-part xs ys a e ae within same in
-      record
-      { held = held-same (take a zs) (take a xs) (between a e zs) ys (drop e zs) (drop e xs) head (put .before) (put .part) (put .beyond)
-      ; sound =
-          ( ae
-          , subst (λ n. e ≤ n) (sym (put .long)) within
-          , subst (λ ss. Chained ss head) (sym (put .part)) chained
-          , counted ∙ ap len (sym (put .part))
-          )
+      record {
+        held = held-same (take a zs) (take a xs) (between a e zs) ys (drop e zs) (drop e xs) head (put .before) (put .part) (put .beyond);
+        sound = (
+          ae,
+          subst (λ n. e ≤ n) (sym (put .long)) within,
+          subst (λ ss. Chained ss head) (sym (put .part)) chained,
+          counted ∙ ap len (sym (put .part)),
+        );
       }
 
 -- an insert and a removal, where they do something and where they do nothing
@@ -97,8 +97,8 @@ module _ {F : Type 0} (xs ys : List (Slot F)) (a e head filled : ℕ) (sound : S
       → (held-in (putMid a (e - a) xs ys) a e next ≡ with-table (held-in xs a e head) t) × Sound-in (putMid a (e - a) xs ys) a e next count
   changed zs next count t is long chained counted to =
       let c : Changed xs ys (putMid a (e - a) xs ys) a e next count
-            = change-part xs ys a e next count (sound .0) (sound .1) (ap length is ∙ long)
-              (subst (λ ss. Chained ss next) (sym is) chained) (counted ∙ ap len (sym is)) in
+      = change-part xs ys a e next count (sound .0) (sound .1) (ap length is ∙ long)
+      (subst (λ ss. Chained ss next) (sym is) chained) (counted ∙ ap len (sym is)) in
       let h : record { slots = ys; head = next } ≡ t = ap (λ ss. let u : Table F = record { slots = ss; head = next } in u) is ∙ sym to in
       (c .held ∙ ap (λ u. with-table (held-in xs a e head) u) h, c .sound)
 
@@ -116,14 +116,14 @@ module _ {F : Type 0} (xs ys : List (Slot F)) (a e head filled : ℕ) (sound : S
       let i : Inserts slots head f = insert-chained slots head f (sound .2) vacancy in
       let counted : filled + 1 ≡ len (set slots head (Occupied f)) = ap (λ n. n + 1) (sound .3) ∙ sym (i .counted) in
       let t : inserted table f ≡ record { slots = set slots head (Occupied f); head = next }
-            = inserted-open table f vacancy ∙ ap (λ n. let u : Table F = record { slots = set slots head (Occupied f); head = n } in u) (sym to) in
+      = inserted-open table f vacancy ∙ ap (λ n. let u : Table F = record { slots = set slots head (Occupied f); head = n } in u) (sym to) in
       let both = changed (set slots head (Occupied f)) next (filled + 1) (inserted table f) is (length-set slots head (Occupied f))
-            (subst (λ n. Chained (set slots head (Occupied f)) n) (sym to) (i .chained)) counted t in
-      record
-      { is-open = vacancy
-      ; room = omega (arith, i .room, long, sound .3)
-      ; held = both .0
-      ; sound-then = both .1
+      (subst (λ n. Chained (set slots head (Occupied f)) n) (sym to) (i .chained)) counted t in
+      record {
+        is-open = vacancy;
+        room = omega (arith, i .room, long, sound .3);
+        held = both .0;
+        sound-then = both .1;
       }
 
   pub record Remove (i : ℕ) : Type 0 where
@@ -137,10 +137,10 @@ module _ {F : Type 0} (xs ys : List (Slot F)) (a e head filled : ℕ) (sound : S
       let r : Removes slots head i = remove-chained slots head i (sound .2) there in
       let counted : filled - 1 ≡ len (set slots i (NextFree head)) = omega (arith, sound .3, r .counted) in
       let both = changed (set slots i (NextFree head)) i (filled - 1) (removed table i) is (length-set slots i (NextFree head)) (r .chained) counted (removed-there table i there) in
-      record
-      { some = omega (arith, sound .3, r .counted)
-      ; held = both .0
-      ; sound-then = both .1
+      record {
+        some = omega (arith, sound .3, r .counted);
+        held = both .0;
+        sound-then = both .1;
       }
 
   pub same-part : (t : Table F) → t ≡ record { slots = between a e xs; head = head } → ys ≡ between a e xs

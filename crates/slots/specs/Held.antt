@@ -19,11 +19,11 @@ abbrev pub slots-of : {F : Type 0} → PinSlotMap F → List (Slot F)
 slots-of m = between (m .start) (m .end) (now (m .slots))
 
 abbrev pub held : {F : Type 0} → PinSlotMap F → Held F
-held m = record
-    { before = take (m .start) (now (m .slots))
-    ; table = record { slots = slots-of m; head = m .«free_head» }
-    ; beyond = drop (m .end) (now (m .slots))
-    }
+held m = record {
+  before = take (m .start) (now (m .slots));
+  table = record { slots = slots-of m; head = m .«free_head» };
+  beyond = drop (m .end) (now (m .slots));
+}
 
 abbrev pub with-table : {F : Type 0} → Held F → Table F → Held F
 with-table h t = record { before = h .before; table = t; beyond = h .beyond }

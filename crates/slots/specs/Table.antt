@@ -63,17 +63,17 @@ full slots = eqb (len slots) (length slots)
 
 -- An insert takes the free head. Nothing happens if no slot is vacant.
 abbrev pub inserted : {F : Type 0} → Table F → F → Table F
-inserted t f = record
-    { slots = cond (full (t .slots)) (t .slots) (set (t .slots) (t .head) (Occupied f))
-    ; head = cond (full (t .slots)) (t .head) (next-in (nth (t .slots) (t .head)))
-    }
+inserted t f = record {
+  slots = cond (full (t .slots)) (t .slots) (set (t .slots) (t .head) (Occupied f));
+  head = cond (full (t .slots)) (t .head) (next-in (nth (t .slots) (t .head)));
+}
 
 -- A removal makes its slot the free head. It does nothing on a vacant slot.
 abbrev pub removed : {F : Type 0} → Table F → ℕ → Table F
-removed t i = record
-    { slots = cond (occupied-at (t .slots) i) (set (t .slots) i (NextFree (t .head))) (t .slots)
-    ; head = cond (occupied-at (t .slots) i) i (t .head)
-    }
+removed t i = record {
+  slots = cond (occupied-at (t .slots) i) (set (t .slots) i (NextFree (t .head))) (t .slots);
+  head = cond (occupied-at (t .slots) i) i (t .head);
+}
 
 -- The task of a slot is another one.
 abbrev pub replaced : {F : Type 0} → Table F → ℕ → F → Table F

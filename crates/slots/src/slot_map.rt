@@ -33,7 +33,13 @@ impl<'a, F: Copy> PinSlotMap<'a, F> {
         ensures sound { λ r. ⌜ Sound r ⌝ }
     {
         fresh_in(&mut slots[start..end]);
-        PinSlotMap { slots, start, end, free_head: 0, filled: 0 }
+        PinSlotMap {
+            slots,
+            start,
+            end,
+            free_head: 0,
+            filled: 0,
+        }
     }
 
     // Puts a task into the free head, or hands it back where no slot is vacant.
@@ -84,7 +90,11 @@ impl<'a, F: Copy> PinSlotMap<'a, F> {
     }
 
     // Polls the task in a slot, in place.
-    pub fn poll_at<P: PollFn<F>>(&mut self, key: usize, post: &[u64]) -> Option<(bool, Poll<P::Answer>)>
+    pub fn poll_at<P: PollFn<F>>(
+        &mut self,
+        key: usize,
+        post: &[u64],
+    ) -> Option<(bool, Poll<P::Answer>)>
         requires { ⌜ Sound (now self) ⌝ }
         ensures pair { λ r. ⌜ r ≡ pair-of (P·PollFn .acts) (now (post .entry)) (task-at (slots-of (now (self .entry))) key) ⌝ }
         ensures after { λ _. ⌜ held (now (self .exit)) ≡ with-table (held (now (self .entry))) (polled-at (P·PollFn .acts) (now (post .entry)) (held (now (self .entry)) .table) key) ⌝ }
@@ -115,7 +125,13 @@ impl<'a, F: Copy> PinSlotMap<'a, F> {
     pub fn take_apart(self) -> &'a mut [Slot<F>]
         ensures { λ r. ⌜ now r ≡ now (self .entry .slots) ⌝ }
     {
-        let PinSlotMap { slots, start: _, end: _, free_head: _, filled: _ } = self;
+        let PinSlotMap {
+            slots,
+            start: _,
+            end: _,
+            free_head: _,
+            filled: _,
+        } = self;
         slots
     }
 }

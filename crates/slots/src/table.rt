@@ -86,7 +86,11 @@ pub fn get_in<F: Copy>(slots: &[Slot<F>], key: usize) -> Option<F>
 }
 
 // Polls the task in a slot, in place.
-pub fn poll_in<F: Copy, P: PollFn<F>>(slots: &mut [Slot<F>], key: usize, post: &[u64]) -> Option<(bool, Poll<P::Answer>)>
+pub fn poll_in<F: Copy, P: PollFn<F>>(
+    slots: &mut [Slot<F>],
+    key: usize,
+    post: &[u64],
+) -> Option<(bool, Poll<P::Answer>)>
     ensures pair { λ r. ⌜ r ≡ pair-of (P·PollFn .acts) (now (post .entry)) (task-at (now (slots .entry)) key) ⌝ }
     ensures slots { λ _. ⌜ now (slots .exit) ≡ slots-after (P·PollFn .acts) (now (post .entry)) (now (slots .entry)) key (task-at (now (slots .entry)) key) ⌝ }
 {

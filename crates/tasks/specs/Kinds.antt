@@ -10,6 +10,8 @@ use Rattle.tasks.specs.Acts.{Acts}
 use Rattle.tasks.specs.declared.poll.Poll.{Poll}
 use Rattle.tasks.specs.declared.poll.Poll.the-variants.{Ready, Pending}
 use Rattle.tasks.specs.declared.countdown.Countdown.{Countdown}
+use Rattle.tasks.specs.declared.either.Either.{Either}
+use Rattle.tasks.specs.declared.either.Either.the-variants.{Left, Right}
 use Rattle.tasks.specs.declared.letter.Delivery.{Delivery}
 use Rattle.tasks.specs.declared.letter.Letter.{Letter}
 use Rattle.tasks.specs.declared.mailbag.Mailbag.{Mailbag}
@@ -59,11 +61,11 @@ abbrev pub with-data : {F : Type 0} → OrderWrapper F → F → OrderWrapper F
 with-data w f = record { «data» = f; index = w .index }
 
 abbrev pub wrapped-acts : {F O : Type 0} → Acts F O → Acts (OrderWrapper F) (OrderWrapper O)
-wrapped-acts acts = record
-    { wakes = λ w post. acts .wakes (w .«data») post
-    ; answers = λ w post. wrapped-answers (w .index) (acts .answers (w .«data») post)
-    ; after = λ w post. with-data w (acts .after (w .«data») post)
-    }
+wrapped-acts acts = record {
+  wakes = λ w post. acts .wakes (w .«data») post;
+  answers = λ w post. wrapped-answers (w .index) (acts .answers (w .«data») post);
+  after = λ w post. with-data w (acts .after (w .«data») post);
+}
 
 -- A stream's ticket is its owner and its next number; an item raises the number by one.
 abbrev pub raised : ℕ × ℕ → ℕ × ℕ
@@ -105,11 +107,40 @@ mailbag-answers m post =
 
 abbrev pub mailbag-after : Mailbag → List ℕ → Mailbag
 mailbag-after m post =
-    record
-    { owner = m .owner
-    ; next = cond (mailbag-gives m post) (m .next + 1) (m .next)
-    ; place = cond (mailbag-gives m post) (m .place + 1) (m .place)
+    record {
+      owner = m .owner;
+      next = cond (mailbag-gives m post) (m .next + 1) (m .next);
+      place = cond (mailbag-gives m post) (m .place + 1) (m .place);
     }
 
 abbrev pub mailbag-acts : Acts Mailbag (Option Delivery)
 mailbag-acts = record { wakes = never-wakes; answers = mailbag-answers; after = mailbag-after }
+
+-- An Either does what the task in it does.
+abbrev pub either-ticket : {A B : Type 0} → (A → ℕ × ℕ) → (B → ℕ × ℕ) → Either A B → ℕ × ℕ
+either-ticket a b (Left x) = a x
+either-ticket a b (Right y) = b y
+
+abbrev pub left-poll : {A B : Type 0} → Poll A → Poll (Either A B)
+left-poll (Ready x) = Ready (Left x)
+left-poll Pending = Pending
+
+abbrev pub right-poll : {A B : Type 0} → Poll B → Poll (Either A B)
+right-poll (Ready y) = Ready (Right y)
+right-poll Pending = Pending
+
+module _ {F G O P : Type 0} (f : Acts F O) (g : Acts G P) where
+  abbrev pub either-wakes : Either F G → List ℕ → Bool
+  either-wakes (Left x) post = f .wakes x post
+  either-wakes (Right y) post = g .wakes y post
+
+  abbrev pub either-answers : Either F G → List ℕ → Poll (Either O P)
+  either-answers (Left x) post = left-poll (f .answers x post)
+  either-answers (Right y) post = right-poll (g .answers y post)
+
+  abbrev pub either-after : Either F G → List ℕ → Either F G
+  either-after (Left x) post = Left (f .after x post)
+  either-after (Right y) post = Right (g .after y post)
+
+  abbrev pub either-acts : Acts (Either F G) (Either O P)
+  either-acts = record { wakes = either-wakes; answers = either-answers; after = either-after }

@@ -1,5 +1,6 @@
 // What a set or a merge holds, and the words in which it answers.
 pub mod countdown;
+pub mod either;
 pub mod fault;
 pub mod future;
 pub mod letter;

@@ -9,9 +9,5 @@ pub fn word_at(post: &[u64], place: u64) -> u64
     ensures there { λ r. ⌜ (0 < r → place < length (now (post .entry))) ⌝ }
 {
     let at = place as usize;
-    if at < post.len() {
-        post[at]
-    } else {
-        0
-    }
+    if at < post.len() { post[at] } else { 0 }
 }

@@ -30,9 +30,9 @@ module _ (fl : List Bool) (li : List ℕ) (t i : ℕ) where
   last-joins zero h e c last clear lt same = absurd (e refl)
   last-joins (suc n) h e c last clear lt same =
       let within : t < length li = subst (λ k. t < k) (sym same) (last-within fl li t n h c last) in
-      let more : suc (suc n) ≡ suc n + 1 = omega arith in
-      ( subst (λ k. walk (set li t i) k h ≡ walk li (suc n) h ++ i ∷ []) more (walk-back li t i n h within (c .1) last)
-      , subst (λ k. Chain (set fl i true) (set li t i) k h) more (chain-back fl li t i n h clear lt within c last)
+      let more : suc (suc n) ≡ suc n + 1 = omega arith in (
+        subst (λ k. walk (set li t i) k h ≡ walk li (suc n) h ++ i ∷ []) more (walk-back li t i n h within (c .1) last),
+        subst (λ k. Chain (set fl i true) (set li t i) k h) more (chain-back fl li t i n h clear lt within c last),
       )
 
 module _ (fl : List Bool) (li : List ℕ) (t : ℕ) where
@@ -47,12 +47,12 @@ module _ (fl : List Bool) (li : List ℕ) (t : ℕ) where
   first-leaves zero h e c last = absurd (e refl)
   first-leaves (suc n) h e c last =
       let less : n ≡ suc n - 1 = omega arith in
-      record
-      { was-first = refl
-      ; others = subst (λ k. walk li k (getD li h 0) ≡ walk li n (getD li h 0)) less refl
-      ; chain = subst (λ k. Chain (set fl h false) li k (getD li h 0)) less (chain-rest fl li n h c)
-      ; last = subst (λ k. last-or t (walk li k (getD li h 0)) ≡ t) less (last-rest t h (walk li n (getD li h 0)) last)
-      ; within = first-within fl li n h c
+      record {
+        was-first = refl;
+        others = subst (λ k. walk li k (getD li h 0) ≡ walk li n (getD li h 0)) less refl;
+        chain = subst (λ k. Chain (set fl h false) li k (getD li h 0)) less (chain-rest fl li n h c);
+        last = subst (λ k. last-or t (walk li k (getD li h 0)) ≡ t) less (last-rest t h (walk li n (getD li h 0)) last);
+        within = first-within fl li n h c;
       }
 
 same-length : (records : List WakeRecord) → length (links records) ≡ length (flags records)
@@ -71,10 +71,10 @@ module _ (records records′ : List WakeRecord) (q : Queue) (i : ℕ) (queue : Q
   lt-flags = subst (λ n. i < n) (sym (length-map records (λ r. r .queued))) lt
 
   joined : (q′ : Queue) → q′ .tail ≡ i → waiting-in records′ q′ ≡ waiting-in records q ++ i ∷ [] → Chain (flags records′) (links records′) (q′ .waiting) (q′ .head) → Joined records records′ q q′ i
-  joined q′ tail way chain = record
-      { waiting = way ∙ sym (cond-false (member i (waiting-in records q)) (waiting-in records q) (waiting-in records q ++ i ∷ []) out)
-      ; kept = (chain, ap (λ is. last-or (q′ .tail) is) way ∙ last-push (q′ .tail) i (waiting-in records q) ∙ sym tail)
-      }
+  joined q′ tail way chain = record {
+    waiting = way ∙ sym (cond-false (member i (waiting-in records q)) (waiting-in records q) (waiting-in records q ++ i ∷ []) out);
+    kept = (chain, ap (λ is. last-or (q′ .tail) is) way ∙ last-push (q′ .tail) i (waiting-in records q) ∙ sym tail);
+  }
 
   pub joins-empty : q .waiting ≡ 0 → flags records′ ≡ set (flags records) i true → links records′ ≡ links records
       → Joined records records′ q (record { head = i; tail = i; waiting = q .waiting + 1 }) i
@@ -91,7 +91,7 @@ module _ (records records′ : List WakeRecord) (q : Queue) (i : ℕ) (queue : Q
       joined (record { head = q .head; tail = i; waiting = q .waiting + 1 }) refl
       (subst (λ li. walk li (q .waiting + 1) (q .head) ≡ waiting-in records q ++ i ∷ []) (sym l) (both .0))
       (subst (λ li. Chain (flags records′) li (q .waiting + 1) (q .head)) (sym l)
-          (subst (λ fl. Chain fl (set (links records) (q .tail) i) (q .waiting + 1) (q .head)) (sym f) (both .1)))
+      (subst (λ fl. Chain fl (set (links records) (q .tail) i) (q .waiting + 1) (q .head)) (sym f) (both .1)))
 
   pub room-for : q .waiting < length records
   room-for =
@@ -140,16 +140,16 @@ leaves records records′ q head queue some f l to =
     let gone = first-leaves (flags records) li (q .tail) (q .waiting) (q .head) some (queue .0) (queue .1) in
     let at : head ≡ getD li (q .head) 0 = to ∙ ap (λ ks. getD ks (q .head) 0) l in
     let way : walk (links records′) (q .waiting - 1) head ≡ walk li (q .waiting - 1) (getD li (q .head) 0)
-          = ap (λ ks. walk ks (q .waiting - 1) head) l ∙ ap (λ k. walk li (q .waiting - 1) k) at in
-    record
-    { slot = gone .was-first
-    ; waiting = way ∙ gone .others
-    ; kept =
-        ( subst (λ k. Chain (flags records′) (links records′) (q .waiting - 1) k) (sym at)
+    = ap (λ ks. walk ks (q .waiting - 1) head) l ∙ ap (λ k. walk li (q .waiting - 1) k) at in
+    record {
+      slot = gone .was-first;
+      waiting = way ∙ gone .others;
+      kept = (
+        subst (λ k. Chain (flags records′) (links records′) (q .waiting - 1) k) (sym at)
             (subst (λ ks. Chain (flags records′) ks (q .waiting - 1) (getD li (q .head) 0)) (sym l)
-            (subst (λ bs. Chain bs li (q .waiting - 1) (getD li (q .head) 0)) (sym f) (gone .chain)))
-        , ap (λ is. last-or (q .tail) is) way ∙ gone .last
-        )
+            (subst (λ bs. Chain bs li (q .waiting - 1) (getD li (q .head) 0)) (sym f) (gone .chain))),
+        ap (λ is. last-or (q .tail) is) way ∙ gone .last,
+      );
     }
 
 -- nothing waits

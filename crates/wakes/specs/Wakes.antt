@@ -50,12 +50,12 @@ abbrev pub records-of : WakerList → List WakeRecord
 records-of l = between (l .start) (l .end) (now (l .records))
 
 abbrev pub held : WakerList → Held
-held l = record
-    { before = take (l .start) (now (l .records))
-    ; places = length (records-of l)
-    ; wakes = record { waiting = waiting-in (records-of l) (l .queue); registered = l .registered }
-    ; beyond = drop (l .end) (now (l .records))
-    }
+held l = record {
+  before = take (l .start) (now (l .records));
+  places = length (records-of l);
+  wakes = record { waiting = waiting-in (records-of l) (l .queue); registered = l .registered };
+  beyond = drop (l .end) (now (l .records));
+}
 
 abbrev pub with-wakes : Held → Wakes → Held
 with-wakes h w = record { before = h .before; places = h .places; wakes = w; beyond = h .beyond }

@@ -93,6 +93,9 @@ pub fn fresh_in(records: &mut [WakeRecord])
 {
     let n = records.len();
     for i in 0..n {
-        records[i] = WakeRecord { queued: false, next: 0 };
+        records[i] = WakeRecord {
+            queued: false,
+            next: 0,
+        };
     }
 }

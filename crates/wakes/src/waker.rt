@@ -19,7 +19,10 @@ impl Waker {
     pub fn from_raw(raw: RawWaker) -> Waker
         ensures { λ r. ⌜ r ≡ record { name = raw .name; address = raw .address } ⌝ }
     {
-        Waker { name: raw.name, address: raw.address }
+        Waker {
+            name: raw.name,
+            address: raw.address,
+        }
     }
 
     // The token's two numbers. The token is gone, and is still owed to its set.

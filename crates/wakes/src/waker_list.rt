@@ -6,10 +6,10 @@ ghost use Rattle.lists.specs.Queues.{first};
 ghost use Rattle.lists.specs.Walks.{member};
 ghost use Rattle.std.specs.Options.{Cases as BySome};
 ghost use Rattle.wakes.specs.Wakes.{fresh, pushed, woken, notice, popped, listening, held, with-wakes, records-of, Sound};
+use crate::queue::Queue;
 use crate::queue::dequeue_in;
 use crate::queue::enqueue_in;
 use crate::queue::fresh_in;
-use crate::queue::Queue;
 use crate::wake_record::WakeRecord;
 
 // The wake records of the part from `start` to `end` of the caller's memory, the queue that is kept in them, and
@@ -30,8 +30,18 @@ impl<'a> WakerList<'a> {
         ensures sound { λ r. ⌜ Sound r ⌝ }
     {
         fresh_in(&mut records[start..end]);
-        let queue = Queue { head: 0, tail: 0, waiting: 0 };
-        WakerList { records, start, end, queue, registered: false }
+        let queue = Queue {
+            head: 0,
+            tail: 0,
+            waiting: 0,
+        };
+        WakerList {
+            records,
+            start,
+            end,
+            queue,
+            registered: false,
+        }
     }
 
     // A slot joins the queue without a notice, unless it waits already; tells whether it joined.
@@ -72,7 +82,7 @@ impl<'a> WakerList<'a> {
     }
 
     // Gives a registered parent its notice, and clears the registration.
-    fn notify(&mut self) -> u32
+    pub fn notify(&mut self) -> u32
         requires { ⌜ Sound (now self) ⌝ }
         ensures notices { λ r. ⌜ r ≡ cond (now (self .entry) .registered) 1 0 ⌝ }
         ensures after { λ _. ⌜ held (now (self .exit)) ≡ with-wakes (held (now (self .entry))) (record { waiting = held (now (self .entry)) .wakes .waiting; registered = false }) ⌝ }
@@ -106,7 +116,13 @@ impl<'a> WakerList<'a> {
     pub fn take_apart(self) -> &'a mut [WakeRecord]
         ensures { λ r. ⌜ now r ≡ now (self .entry .records) ⌝ }
     {
-        let WakerList { records, start: _, end: _, queue: _, registered: _ } = self;
+        let WakerList {
+            records,
+            start: _,
+            end: _,
+            queue: _,
+            registered: _,
+        } = self;
         records
     }
 }

@@ -2,13 +2,15 @@ ghost use Prim.Native.Nat.{_<_};
 ghost use lib.ListN.{length};
 ghost use mathlib.Core.Path.{_≡_};
 ghost use Rattle.runs.specs.Calls.{push as Push, poll as Poll-call, hand as Hand, clone as Clone-call, wake as Wake, wake-by-ref as Wake-by-ref, drop as Drop-call, may-end as May-end, ask};
+ghost use Rattle.runs.specs.Promises.{Promises};
 ghost use Rattle.runs.specs.Tokens.{spend-fault};
-ghost use Rattle.sets.specs.Bounded.{made, step, tokened, slots-of, how-many, how-many-can-be};
-ghost use Rattle.sets.specs.BoundedSet.{set-of, returned, Whole, Taken-apart};
+ghost use Rattle.runs.specs.Wakers.{Waker-laws};
+ghost use Rattle.sets.specs.Bounded.{made, step, tokened, slots-of, elements, queued, how-many, how-many-can-be, Never-again};
+ghost use Rattle.sets.specs.BoundedSet.{set-of, unended, Whole, Taken-apart};
 ghost use Rattle.std.specs.Options.{Cases as BySome};
-use crate::futures_unordered_bounded::ending::Ending;
-use crate::futures_unordered_bounded::ending::Returned;
 use crate::futures_unordered_bounded::FuturesUnorderedBounded;
+use crate::futures_unordered_bounded::ending::Ending;
+use crate::futures_unordered_bounded::ending::Unended;
 use crate::group::TaskGroup;
 use crate::memory::Memory;
 use slots::slot::Slot;
@@ -28,12 +30,23 @@ const MOST_SLOTS: usize = 65536;
 
 impl<'a, F: Future + Copy> FuturesUnorderedBounded<'a, F> {
     // An empty set of that name. Its capacity is the lesser of the two memories, and at most 65,536.
-    pub fn new(name: u32, slots: &'a mut [Slot<F>], records: &'a mut [WakeRecord]) -> FuturesUnorderedBounded<'a, F>
-        ensures { λ r. ⌜ set-of r ≡ made name (now (slots .entry)) (now (records .entry)) ⌝ }
+    pub fn new(
+        name: u32,
+        slots: &'a mut [Slot<F>],
+        records: &'a mut [WakeRecord],
+    ) -> FuturesUnorderedBounded<'a, F>
+        ensures fresh { λ r. ⌜ set-of r ≡ made name (now (slots .entry)) (now (records .entry)) ⌝ }
+        ensures promises { λ r. ⌜ Promises (step (F·Future .acts)) (set-of r) (F·Ticketed .bearing) (Output·Ticketed .bearing) elements how-many ⌝ }
+        ensures wakers { λ r. ⌜ Waker-laws (step (F·Future .acts)) (set-of r) queued how-many ⌝ }
+        ensures never_again { λ r. ⌜ Never-again (F·Future .acts) (set-of r) ⌝ }
     {
         let capacity = slots.len().min(records.len()).min(MOST_SLOTS);
         let group = TaskGroup::new(slots, records, 0, capacity);
-        FuturesUnorderedBounded { name, tokens: 0, group }
+        FuturesUnorderedBounded {
+            name,
+            tokens: 0,
+            group,
+        }
     }
 
     // Puts a future into the set and answers its address, or hands it back where no slot is vacant.
@@ -44,7 +57,10 @@ impl<'a, F: Future + Copy> FuturesUnorderedBounded<'a, F> {
         let capacity = self.group.capacity();
         match self.group.try_push(fut) {
             Ok(address) => Ok(address),
-            Err(input) => Err(Refused { fault: Fault::NoVacantSlot { capacity }, input }),
+            Err(input) => Err(Refused {
+                fault: Fault::NoVacantSlot { capacity },
+                input,
+            }),
         }
     }
 
@@ -76,13 +92,22 @@ impl<'a, F: Future + Copy> FuturesUnorderedBounded<'a, F> {
         ensures after { λ _. ⌜ set-of (now (self .exit)) ≡ step (F·Future .acts) (set-of (now (self .entry))) (Hand address) .0 ⌝ }
     {
         if !self.group.is_occupied(address) {
-            return Err(Refused { fault: Fault::NoSuchSlot { address }, input: address });
+            return Err(Refused {
+                fault: Fault::NoSuchSlot { address },
+                input: address,
+            });
         }
         if self.tokens == MOST_TOKENS {
-            return Err(Refused { fault: Fault::TooManyTokens { out: self.tokens }, input: address });
+            return Err(Refused {
+                fault: Fault::TooManyTokens { out: self.tokens },
+                input: address,
+            });
         }
         self.tokens += 1;
-        Ok(Waker::from_raw(RawWaker { name: self.name, address }))
+        Ok(Waker::from_raw(RawWaker {
+            name: self.name,
+            address,
+        }))
     }
 
     // Why a token is refused: it bears another name, none is out, or no slot has its address.
@@ -116,7 +141,10 @@ impl<'a, F: Future + Copy> FuturesUnorderedBounded<'a, F> {
                     return Err(Fault::TooManyTokens { out: self.tokens });
                 }
                 self.tokens += 1;
-                Ok(Waker::from_raw(RawWaker { name: token.name(), address: token.address() }))
+                Ok(Waker::from_raw(RawWaker {
+                    name: token.name(),
+                    address: token.address(),
+                }))
             }
         }
     }
@@ -127,7 +155,10 @@ impl<'a, F: Future + Copy> FuturesUnorderedBounded<'a, F> {
         ensures after { λ _. ⌜ set-of (now (self .exit)) ≡ step (F·Future .acts) (set-of (now (self .entry))) (Wake token) .0 ⌝ }
     {
         match self.token_fault(&token) {
-            Some(fault) => Err(Refused { fault, input: token }),
+            Some(fault) => Err(Refused {
+                fault,
+                input: token,
+            }),
             None => {
                 let raw = token.into_raw();
                 let notices = self.group.wake(raw.address);
@@ -154,7 +185,10 @@ impl<'a, F: Future + Copy> FuturesUnorderedBounded<'a, F> {
         ensures after { λ _. ⌜ set-of (now (self .exit)) ≡ step (F·Future .acts) (set-of (now (self .entry))) (Drop-call token) .0 ⌝ }
     {
         match self.token_fault(&token) {
-            Some(fault) => Err(Refused { fault, input: token }),
+            Some(fault) => Err(Refused {
+                fault,
+                input: token,
+            }),
             None => {
                 let _ = token.into_raw();
                 self.tokens -= 1;
@@ -177,29 +211,53 @@ impl<'a, F: Future + Copy> FuturesUnorderedBounded<'a, F> {
     pub fn take_apart(self) -> Ending<'a, F>
         ensures { λ r. ⌜ Taken-apart (set-of (self .entry)) r ⌝ }
     {
-        let FuturesUnorderedBounded { name, tokens, group } = self;
+        let FuturesUnorderedBounded {
+            name,
+            tokens,
+            group,
+        } = self;
         if tokens == 0 {
             return Ending::Ended(group.take_apart());
         }
-        Ending::Refused(Fault::TokensOut { count: tokens }, Returned { name, tokens, group })
+        Ending::Refused(
+            Fault::TokensOut { count: tokens },
+            Unended {
+                name,
+                tokens,
+                group,
+            },
+        )
     }
 }
 
-impl<'a, F: Copy> Returned<'a, F> {
-    // The set that was not taken apart.
+impl<'a, F: Copy> Unended<'a, F> {
+    // The set that was not taken apart. What it asks is what `take_apart` ensures of the value that it hands back.
     pub fn into_set(self) -> FuturesUnorderedBounded<'a, F>
         requires { ⌜ Whole self ⌝ }
-        ensures { λ r. ⌜ set-of r ≡ returned (self .entry) ⌝ }
+        ensures { λ r. ⌜ set-of r ≡ unended (self .entry) ⌝ }
     {
-        let Returned { name, tokens, group } = self;
-        FuturesUnorderedBounded { name, tokens, group }
+        let Unended {
+            name,
+            tokens,
+            group,
+        } = self;
+        FuturesUnorderedBounded {
+            name,
+            tokens,
+            group,
+        }
     }
 
-    // Gives the memory back while tokens are out. They can never be spent any more.
+    // Gives the memory back with tokens out. What is left of them will be refused by any other set.
     pub fn abandon(self) -> Memory<'a, F>
-        requires { ⌜ Whole self ⌝ }
+        ensures slots { λ r. ⌜ now (r .slots) ≡ now (self .entry .group .tasks .slots) ⌝ }
+        ensures records { λ r. ⌜ now (r .records) ≡ now (self .entry .group .shared .records) ⌝ }
     {
-        let Returned { name: _, tokens: _, group } = self;
-        group.take_apart()
+        let Unended {
+            name: _,
+            tokens: _,
+            group,
+        } = self;
+        group.into_memory()
     }
 }

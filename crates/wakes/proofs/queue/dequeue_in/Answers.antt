@@ -12,10 +12,10 @@ next-in-queue-requires c κs =
 pub returns : need.returns
 returns c =
     let gone = leaves (c .args .records .now) (c .flag-in .last .records) (c .args .queue .now) (c .next-in-queue .result) (c .pre) (c .if-queue-eq0 .left)
-          (c .flag-in .ensures .flags) (c .flag-in .ensures .links) (c .next-in-queue .ensures) in
-    record
-    { slot = gone .slot
-    ; waiting = gone .waiting
-    ; kept = gone .kept
-    ; within = head-within (c .args .records .now) (c .args .queue .now) (c .pre) (c .if-queue-eq0 .left)
+    (c .flag-in .ensures .flags) (c .flag-in .ensures .links) (c .next-in-queue .ensures) in
+    record {
+      slot = gone .slot;
+      waiting = gone .waiting;
+      kept = gone .kept;
+      within = head-within (c .args .records .now) (c .args .queue .now) (c .pre) (c .if-queue-eq0 .left);
     }

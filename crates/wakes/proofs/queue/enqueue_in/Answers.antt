@@ -14,10 +14,10 @@ returns-then-is-queued-in c =
     let rs = c .args .records .now in
     let q = c .args .queue .now in
     let waits = sym (c .if-is-queued-in .ensures tt) in
-    record
-    { joined = joined-no rs q (c .args .slot) (c .pre .1) waits
-    ; waiting = stays rs q (c .args .slot) (c .pre .1) waits
-    ; kept = c .pre .1
+    record {
+      joined = joined-no rs q (c .args .slot) (c .pre .1) waits;
+      waiting = stays rs q (c .args .slot) (c .pre .1) waits;
+      kept = c .pre .1;
     }
 
 pub link-in-requires : need.link-in-requires
@@ -27,9 +27,9 @@ link-in-requires c κs =
 pub add-queue : need.add-queue
 add-queue c =
     let room = room-for (c .args .records .now) (c .args .records .now) (c .args .queue .now) (c .args .slot) (c .pre .1) (c .pre .0) (sym (c .if-is-queued-in .ensures tt)) in
-    elim (c .if-queue-eq0 .came)
-    [ then-queue-eq0 w ↦ omega (arith, room, ap (λ (q : Queue). q .waiting) (w .queue-is))
-    | else-queue-eq0 w ↦ omega (arith, room, ap (λ (q : Queue). q .waiting) (w .queue-is))
+    elim (c .if-queue-eq0 .came) [
+      | then-queue-eq0 w ↦ omega (arith, room, ap (λ (q : Queue). q .waiting) (w .queue-is))
+      | else-queue-eq0 w ↦ omega (arith, room, ap (λ (q : Queue). q .waiting) (w .queue-is))
     ]
 
 pub returns : need.returns
@@ -40,17 +40,17 @@ returns c =
     let clear = sym (c .if-is-queued-in .ensures tt) in
     let Here : List WakeRecord → Queue → Type 0 = λ rs′ q′. Joined rs rs′ q (record { head = q′ .head; tail = i; waiting = q′ .waiting + 1 }) i in
     let here : Here (c .if-queue-eq0 .records) (c .if-queue-eq0 .queue) =
-          elim (c .if-queue-eq0 .came)
-          [ then-queue-eq0 w ↦
-              subst (λ rs′. Here rs′ (c .if-queue-eq0 .queue)) (sym (w .records-is)) (subst (λ q′. Here (c .flag-in .last .records) q′) (sym (w .queue-is))
-              (joins-empty rs (c .flag-in .last .records) q i (c .pre .1) (c .pre .0) clear (w .if-queue-eq0 .taken) (c .flag-in .ensures .flags) (c .flag-in .ensures .links)))
-          | else-queue-eq0 w ↦
-              subst (λ rs′. Here rs′ (c .if-queue-eq0 .queue)) (sym (w .records-is)) (subst (λ q′. Here (w .link-in .last .records) q′) (sym (w .queue-is))
-              (joins-behind rs (w .link-in .last .records) q i (c .pre .1) (c .pre .0) clear (w .if-queue-eq0 .left) (w .link-in .ensures .flags ∙ c .flag-in .ensures .flags)
-              (w .link-in .ensures .links ∙ ap (λ ls. set ls (q .tail) i) (c .flag-in .ensures .links))))
-          ] in
-    record
-    { joined = joined-yes rs rs q i (c .pre .1) (c .pre .0) clear
-    ; waiting = here .waiting
-    ; kept = here .kept
+    elim (c .if-queue-eq0 .came) [
+      | then-queue-eq0 w ↦
+          subst (λ rs′. Here rs′ (c .if-queue-eq0 .queue)) (sym (w .records-is)) (subst (λ q′. Here (c .flag-in .last .records) q′) (sym (w .queue-is))
+          (joins-empty rs (c .flag-in .last .records) q i (c .pre .1) (c .pre .0) clear (w .if-queue-eq0 .taken) (c .flag-in .ensures .flags) (c .flag-in .ensures .links)))
+      | else-queue-eq0 w ↦
+          subst (λ rs′. Here rs′ (c .if-queue-eq0 .queue)) (sym (w .records-is)) (subst (λ q′. Here (w .link-in .last .records) q′) (sym (w .queue-is))
+          (joins-behind rs (w .link-in .last .records) q i (c .pre .1) (c .pre .0) clear (w .if-queue-eq0 .left) (w .link-in .ensures .flags ∙ c .flag-in .ensures .flags)
+          (w .link-in .ensures .links ∙ ap (λ ls. set ls (q .tail) i) (c .flag-in .ensures .links))))
+    ] in
+    record {
+      joined = joined-yes rs rs q i (c .pre .1) (c .pre .0) clear;
+      waiting = here .waiting;
+      kept = here .kept;
     }

@@ -13,9 +13,9 @@ returns c =
     let i = c .args .slot in
     let none : WakeRecord = record { queued = false; next = 0 } in
     let new : WakeRecord = record { queued = c .args .queued; next = getD rs i none .next } in
-    record
-    { flags = map-set (λ r. r .queued) rs i new
-    ; links = map-set (λ r. r .next) rs i new
-        ∙ ap (λ n. set (links rs) i n) (sym (getD-map (λ r. r .next) rs i none 0 (c .pre)))
-        ∙ set-getD (links rs) i 0
+    record {
+      flags = map-set (λ r. r .queued) rs i new;
+      links = map-set (λ r. r .next) rs i new
+          ∙ ap (λ n. set (links rs) i n) (sym (getD-map (λ r. r .next) rs i none 0 (c .pre)))
+          ∙ set-getD (links rs) i 0;
     }

@@ -13,9 +13,9 @@ returns c =
     let i = c .args .slot in
     let none : WakeRecord = record { queued = false; next = 0 } in
     let new : WakeRecord = record { queued = getD rs i none .queued; next = c .args .next } in
-    record
-    { flags = map-set (λ r. r .queued) rs i new
-        ∙ ap (λ b. set (flags rs) i b) (sym (getD-map (λ r. r .queued) rs i none false (c .pre)))
-        ∙ set-getD (flags rs) i false
-    ; links = map-set (λ r. r .next) rs i new
+    record {
+      flags = map-set (λ r. r .queued) rs i new
+          ∙ ap (λ b. set (flags rs) i b) (sym (getD-map (λ r. r .queued) rs i none false (c .pre)))
+          ∙ set-getD (flags rs) i false;
+      links = map-set (λ r. r .next) rs i new;
     }

@@ -14,13 +14,13 @@ same h h′ l l′ e d = cc
 pub returns : need.returns
 returns g c =
     let n : ℕ = c .args .end - c .args .start in
-    record
-    { fresh = same _ _ _ _ (c .new-tasks .ensures .fresh) (c .new-shared .ensures .fresh)
-    ; sound =
-        ( c .new-tasks .ensures .sound
-        , c .new-shared .ensures .sound
-        , ap (λ (h : slots.Held (g .F .Denot)). length (h .table .slots)) (c .new-tasks .ensures .fresh)
-          ∙ length-map-counting (λ i. NextFree (i + 1)) 0 n
-          ∙ sym (ap (λ (h : wakes.Held). h .places) (c .new-shared .ensures .fresh))
-        )
+    record {
+      fresh = same _ _ _ _ (c .new-tasks .ensures .fresh) (c .new-shared .ensures .fresh);
+      sound = (
+        c .new-tasks .ensures .sound,
+        c .new-shared .ensures .sound,
+        ap (λ (h : slots.Held (g .F .Denot)). length (h .table .slots)) (c .new-tasks .ensures .fresh)
+            ∙ length-map-counting (λ i. NextFree (i + 1)) 0 n
+            ∙ sym (ap (λ (h : wakes.Held). h .places) (c .new-shared .ensures .fresh)),
+      );
     }

@@ -11,4 +11,4 @@ Inv-loop-turns g l =
     × (l .notices ≤ l .turns)
     × (ground (l .self) ≡ with-group (ground (l .entry .self)) (group-in (ground (l .self))))
     × (polling (g .P·PollFn .acts) (l .post) (61 - l .turns) (l .notices) (l .turns) (group-in (ground (l .self)))
-      ≡ polling (g .P·PollFn .acts) (l .post) 61 0 0 (group-in (ground (l .entry .self))))
+    ≡ polling (g .P·PollFn .acts) (l .post) 61 0 0 (group-in (ground (l .entry .self))))

@@ -9,7 +9,7 @@ returns g c =
     let m = c .args .self .tasks in
     let l = c .args .self .shared in
     let parts = given (l .records .now) (l .start) (l .end) (c .pre .1 .0) (c .pre .1 .1) in
-    record
-    { slots = c .take-apart-slots .ensures ∙ sym (whole-from-parts (m .slots .now) (m .start) (m .end) (c .pre .0 .0))
-    ; records = subst (λ rs. Given-back (held l) rs) (sym (c .take-apart-records .ensures)) (record { before = parts .before; beyond = parts .beyond; long = parts .long })
+    record {
+      slots = c .take-apart-slots .ensures ∙ sym (whole-from-parts (m .slots .now) (m .start) (m .end) (c .pre .0 .0));
+      records = subst (λ rs. Given-back (held l) rs) (sym (c .take-apart-records .ensures)) (record { before = parts .before; beyond = parts .beyond; long = parts .long });
     }

@@ -21,10 +21,10 @@ returns g c =
     let long : length (between a e xs) ≡ e - a = length-between xs a e (c .pre .1) in
     let is : c .fresh-in .last .slots ≡ fresh-slots (e - a) = c .fresh-in .ensures ∙ ap (λ n. fresh-slots n) long in
     let there = change-part xs (c .fresh-in .last .slots) a e 0 0 (c .pre .0) (c .pre .1)
-          (ap length is ∙ length-map-counting (λ i. NextFree (i + 1)) 0 (e - a) ∙ sym long)
-          (subst (λ ss. Chained ss 0) (sym is) (fresh-chained (g .F .Denot) (e - a)))
-          (sym (fresh-len (g .F .Denot) (e - a)) ∙ ap len (sym is)) in
-    record
-    { fresh = there .held ∙ ap (λ ss. let h : Held (g .F .Denot) = record { before = take a xs; table = record { slots = ss; head = 0 }; beyond = drop e xs } in h) is
-    ; sound = there .sound
+    (ap length is ∙ length-map-counting (λ i. NextFree (i + 1)) 0 (e - a) ∙ sym long)
+    (subst (λ ss. Chained ss 0) (sym is) (fresh-chained (g .F .Denot) (e - a)))
+    (sym (fresh-len (g .F .Denot) (e - a)) ∙ ap len (sym is)) in
+    record {
+      fresh = there .held ∙ ap (λ ss. let h : Held (g .F .Denot) = record { before = take a xs; table = record { slots = ss; head = 0 }; beyond = drop e xs } in h) is;
+      sound = there .sound;
     }

@@ -7,9 +7,9 @@ pub returns : need.returns
 returns g c =
     let m = c .args .self .now in
     let both = polled-part (m .slots .now) (c .poll-in .last .slots) (m .start) (m .end) (m .«free_head») (m .filled) (c .pre)
-          (g .P·PollFn .acts) (c .args .post .now) (c .args .key) (c .poll-in .ensures .slots) in
-    record
-    { pair = c .poll-in .ensures .pair
-    ; after = both .0
-    ; sound = both .1
+    (g .P·PollFn .acts) (c .args .post .now) (c .args .key) (c .poll-in .ensures .slots) in
+    record {
+      pair = c .poll-in .ensures .pair;
+      after = both .0;
+      sound = both .1;
     }

@@ -15,8 +15,8 @@ returns c =
     let a = c .args .start in
     let e = c .args .end in
     let there = change-part xs (c .fresh-in .last .records) a e (record { head = 0; tail = 0; waiting = 0 }) [] false
-          (c .pre .0) (c .pre .1) (c .fresh-in .kept .records) refl (nothing-waits (c .fresh-in .last .records) (c .fresh-in .ensures)) in
-    record
-    { fresh = there .held ∙ ap (λ n. let h : Held = record { before = take a xs; places = n; wakes = fresh; beyond = drop e xs } in h) (length-between xs a e (c .pre .1))
-    ; sound = there .sound
+    (c .pre .0) (c .pre .1) (c .fresh-in .kept .records) refl (nothing-waits (c .fresh-in .last .records) (c .fresh-in .ensures)) in
+    record {
+      fresh = there .held ∙ ap (λ n. let h : Held = record { before = take a xs; places = n; wakes = fresh; beyond = drop e xs } in h) (length-between xs a e (c .pre .1));
+      sound = there .sound;
     }
