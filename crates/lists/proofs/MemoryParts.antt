@@ -52,6 +52,7 @@ pub record Given {X : Type 0} (xs : List X) (a e : ℕ) : Type 0 where
   pub before : take (length (take a xs)) xs ≡ take a xs
   pub beyond : drop (length (take a xs) + length (between a e xs)) xs ≡ drop e xs
   pub long : length xs ≡ length (take a xs) + length (between a e xs) + length (drop e xs)
+  pub part : between (length (take a xs)) (length (take a xs) + length (between a e xs)) xs ≡ between a e xs
 
 pub given : {X : Type 0} (xs : List X) (a e : ℕ) → a ≤ e → e ≤ length xs → Given xs a e
 given xs a e ae within =
@@ -62,4 +63,5 @@ given xs a e ae within =
       before = ap (λ n. take n xs) first;
       beyond = ap (λ n. drop n xs) sum;
       long = omega (arith, sum, length-drop e xs);
+      part = ap (λ n. between n (length (take a xs) + length (between a e xs)) xs) first ∙ ap (λ n. between a n xs) sum;
     }

@@ -1,12 +1,16 @@
 -- A group in its part of the caller's memory.
 use Prim.Native.Nat.{ℕ, _+_, _-_}
-use lib.ListN.{length, take, drop}
+use lib.ListN.{length, getD, take, drop}
+use mathlib.Core.Bool.{false}
 use mathlib.Core.List.{List}
 use mathlib.Core.Path.{_≡_}
+use Rattle.lists.specs.Walks.{member}
 use Rattle.sets.specs.Group.{Group, fresh}
 use Rattle.sets.specs.declared.group.TaskGroup.{TaskGroup}
 use Rattle.slots.specs.Held as slots
 use Rattle.slots.specs.declared.slot.Slot.{Slot}
+use Rattle.std.specs.shelf.Lists.{between}
+use Rattle.wakes.specs.Queue.{flags}
 use Rattle.wakes.specs.Wakes as wakes
 use Rattle.wakes.specs.declared.wake_record.WakeRecord.{WakeRecord}
 
@@ -42,8 +46,10 @@ Sound t = slots.Sound (t .tasks) × wakes.Sound (t .shared) × Paired t
 abbrev pub From-start : {F : Type 0} → TaskGroup F → Type 0
 From-start t = (length (ground t .tasks .before) ≡ 0) × (length (ground t .shared .before) ≡ 0)
 
--- Wake memory that is given back: what lies before and beyond the part is as it was, and so is its length.
+-- Wake memory that is given back: what lies before and beyond the part is as it was, and so is its length. In the part
+-- the flags are set of just the slots that wait.
 pub record Given-back (h : wakes.Held) (records : List WakeRecord) : Type 0 where
   pub before : take (length (h .before)) records ≡ h .before
   pub beyond : drop (length (h .before) + h .places) records ≡ h .beyond
   pub long : length records ≡ length (h .before) + h .places + length (h .beyond)
+  pub flagged : (k : ℕ) → getD (flags (between (length (h .before)) (length (h .before) + h .places) records)) k false ≡ member k (h .wakes .waiting)
