@@ -85,8 +85,8 @@ module _ {F A : Type 0} (acts : Acts F A) (post : List ℕ) where
   abbrev pub turn : Group F → Turn A × Group F
   turn g = turn-from g (first (g .wakes .waiting))
 
-  -- Turns are taken until a task gives an answer or the queue is empty, and then while some are left. When none is
-  -- left, the parent gets one notice, and stays registered.
+  -- Turns are taken until a task gives an answer, the queue is empty, or none of the turns is left. In the last case the
+  -- parent gets one notice, and stays registered.
   abbrev pub after-turn : (Group F → ℕ → Outcome F (Found A)) → ℕ → ℕ → Turn A → Group F → Outcome F (Found A)
   after-turn go notices turns Idle g = record { answer = record { poll = Pending; notices = notices; turns = turns }; group = g }
   after-turn go notices turns (Served more) g = go g (notices + more)

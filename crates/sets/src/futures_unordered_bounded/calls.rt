@@ -40,6 +40,16 @@ impl<'a, F: Future + Copy> FuturesUnorderedBounded<'a, F> {
         ensures wakers { λ r. ⌜ Waker-laws (step (F·Future .acts)) (set-of r) queued how-many ⌝ }
         ensures never_again { λ r. ⌜ Never-again (F·Future .acts) (set-of r) ⌝ }
     {
+        FuturesUnorderedBounded::empty(name, slots, records)
+    }
+
+    fn empty(
+        name: u32,
+        slots: &'a mut [Slot<F>],
+        records: &'a mut [WakeRecord],
+    ) -> FuturesUnorderedBounded<'a, F>
+        ensures { λ r. ⌜ set-of r ≡ made name (now (slots .entry)) (now (records .entry)) ⌝ }
+    {
         let capacity = slots.len().min(records.len()).min(MOST_SLOTS);
         let group = TaskGroup::new(slots, records, 0, capacity);
         FuturesUnorderedBounded {
