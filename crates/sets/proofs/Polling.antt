@@ -1,6 +1,5 @@
 -- How the turns of a poll add up to it.
 use Prim.Native.Nat.{ℕ, zero, suc, _+_, _-_, _<_, _≤_}
-use lib.Dec.{eqb}
 use mathlib.Core.Bool.{Bool, true, false, cond}
 use mathlib.Core.List.{List}
 use mathlib.Core.Path.{_≡_, refl, sym, ap, subst, _∙_}
@@ -8,11 +7,11 @@ use native.Mathlib.Omega.{arith}
 use Rattle.lists.specs.Queues.{first}
 use Rattle.lists.specs.Walks.{member}
 use Rattle.sets.specs.Ground.{Ground, group-in, with-group}
-use Rattle.sets.specs.Group.{Group, Outcome, turn, turn-at, turn-from, turn-answer, self-notice, dequeued, after-turn, polling, registered, found, found-if}
+use Rattle.sets.specs.Group.{Group, Outcome, turn, turn-at, turn-from, turn-answer, self-notice, dequeued, after-turn, polling}
 use Rattle.sets.specs.declared.turn.Found.{Found}
 use Rattle.sets.specs.declared.turn.Turn.{Turn}
 use Rattle.sets.specs.declared.turn.Turn.the-variants.{Idle, Served, Gave}
-use Rattle.slots.specs.Table.{task-at, len}
+use Rattle.slots.specs.Table.{task-at}
 use Rattle.std.proofs.shelf.Tests.{cond-both}
 use Rattle.std.specs.declared.option.Option.{Option}
 use Rattle.std.specs.declared.option.Option.the-variants.{Some, None}
@@ -53,63 +52,55 @@ module _ {F A : Type 0} (acts : Acts F A) (post : List ℕ) where
   turn-few g r e = subst (λ x. few x) (sym e) (from-few g (first (g .wakes .waiting)))
 
   -- one turn of those that are left
-  polling-step : (t n : ℕ) (g : Group F) → t < 61
-      → polling acts post (61 - t) n t g ≡ after-turn acts post (λ h more. polling acts post (61 - (t + 1)) more (t + 1) h) n t (turn acts post g .0) (turn acts post g .1)
+  polling-step : (most t n : ℕ) (g : Group F) → t < most
+      → polling acts post (most - t) n t g ≡ after-turn acts post (λ h more. polling acts post (most - (t + 1)) more (t + 1) h) n t (turn acts post g .0) (turn acts post g .1)
   unfolding polling
-  polling-step t n g lt =
-      let left : 61 - t ≡ suc (61 - (t + 1)) = omega arith in
+  polling-step most t n g lt =
+      let left : most - t ≡ suc (most - (t + 1)) = omega arith in
       ap (λ k. polling acts post k n t g) left
 
-  -- a poll in progress: entry is where it was called, start is after the registration, and here is after t turns with n notices
-  module _ (entry start here : Ground F) (n t : ℕ)
-      (some : eqb (len (entry .tasks .table .slots)) 0 ≡ false)
-      (listens : start ≡ with-group entry (registered acts post (group-in entry)))
-      (around : here ≡ with-group start (group-in here))
-      (so-far : polling acts post (61 - t) n t (group-in here) ≡ polling acts post 61 0 0 (group-in start)) where
-    whole : found acts post (group-in entry) ≡ polling acts post (61 - t) n t (group-in here)
-    whole = ap (λ b. found-if acts post b (group-in entry)) some ∙ ap (λ s. polling acts post 61 0 0 (group-in s)) (sym listens) ∙ sym so-far
-
-    outer : (k : Group F) → with-group here k ≡ with-group entry k
-    outer k = ap (λ s. with-group s k) around ∙ ap (λ s. with-group s k) listens
-
+  -- a poll in progress: entry is where its turns began, and here is after t turns with n notices
+  module _ (entry here : Ground F) (most n t : ℕ)
+      (around : here ≡ with-group entry (group-in here))
+      (so-far : polling acts post (most - t) n t (group-in here) ≡ polling acts post most 0 0 (group-in entry)) where
     -- it ends with a turn that gives the answer a
-    pub ends : (end : Ground F) (r : Turn A) (a : Polled (Option (Found A))) → t < 61
+    pub ends : (end : Ground F) (r : Turn A) (a : Polled (Option (Found A))) → t < most
         → r ≡ turn acts post (group-in here) .0
         → end ≡ with-group here (turn acts post (group-in here) .1)
-        → after-turn acts post (λ h more. polling acts post (61 - (t + 1)) more (t + 1) h) n t r (turn acts post (group-in here) .1) ≡ record { answer = a; group = turn acts post (group-in here) .1 }
-        → (a ≡ found acts post (group-in entry) .answer) × (end ≡ with-group entry (found acts post (group-in entry) .group))
+        → after-turn acts post (λ h more. polling acts post (most - (t + 1)) more (t + 1) h) n t r (turn acts post (group-in here) .1) ≡ record { answer = a; group = turn acts post (group-in here) .1 }
+        → (a ≡ polling acts post most 0 0 (group-in entry) .answer) × (end ≡ with-group entry (polling acts post most 0 0 (group-in entry) .group))
     ends end r a lt is to gives =
         let g : Group F = group-in here in
-        let o : found acts post (group-in entry) ≡ record { answer = a; group = turn acts post g .1 }
-        = whole ∙ polling-step t n g lt
-        ∙ ap (λ x. after-turn acts post (λ h more. polling acts post (61 - (t + 1)) more (t + 1) h) n t x (turn acts post g .1)) (sym is)
+        let o : polling acts post most 0 0 (group-in entry) ≡ record { answer = a; group = turn acts post g .1 }
+        = sym so-far ∙ polling-step most t n g lt
+        ∙ ap (λ x. after-turn acts post (λ h more. polling acts post (most - (t + 1)) more (t + 1) h) n t x (turn acts post g .1)) (sym is)
         ∙ gives in (
           sym (ap (λ (x : Outcome F (Found A)). x .answer) o),
-          to ∙ outer (turn acts post g .1) ∙ ap (λ (x : Outcome F (Found A)). with-group entry (x .group)) (sym o),
+          to ∙ ap (λ s. with-group s (turn acts post g .1)) around ∙ ap (λ (x : Outcome F (Found A)). with-group entry (x .group)) (sym o),
         )
 
     -- it goes on after a turn that gives no answer
-    pub goes-on : (next : Ground F) (more : ℕ) → t < 61 → Served more ≡ turn acts post (group-in here) .0 → next ≡ with-group here (turn acts post (group-in here) .1)
-        → (next ≡ with-group start (group-in next))
-        × (polling acts post (61 - (t + 1)) (n + more) (t + 1) (group-in next) ≡ polling acts post 61 0 0 (group-in start))
+    pub goes-on : (next : Ground F) (more : ℕ) → t < most → Served more ≡ turn acts post (group-in here) .0 → next ≡ with-group here (turn acts post (group-in here) .1)
+        → (next ≡ with-group entry (group-in next))
+        × (polling acts post (most - (t + 1)) (n + more) (t + 1) (group-in next) ≡ polling acts post most 0 0 (group-in entry))
     goes-on next more lt is to =
         let g : Group F = group-in here in
         let there : group-in next ≡ turn acts post g .1 = ap group-in to in (
-          to ∙ ap (λ s. with-group s (turn acts post g .1)) around ∙ ap (λ k. with-group start k) (sym there),
-          ap (λ k. polling acts post (61 - (t + 1)) (n + more) (t + 1) k) there
-              ∙ ap (λ x. after-turn acts post (λ h m. polling acts post (61 - (t + 1)) m (t + 1) h) n t x (turn acts post g .1)) is
-              ∙ sym (polling-step t n g lt) ∙ so-far,
+          to ∙ ap (λ s. with-group s (turn acts post g .1)) around ∙ ap (λ k. with-group entry k) (sym there),
+          ap (λ k. polling acts post (most - (t + 1)) (n + more) (t + 1) k) there
+              ∙ ap (λ x. after-turn acts post (λ h m. polling acts post (most - (t + 1)) m (t + 1) h) n t x (turn acts post g .1)) is
+              ∙ sym (polling-step most t n g lt) ∙ so-far,
         )
 
     -- it ends with no turn left
-    pub runs-out : t ≡ 61
-        → (record { poll = Pending; notices = n + 1; turns = t } ≡ found acts post (group-in entry) .answer)
-        × (here ≡ with-group entry (found acts post (group-in entry) .group))
+    pub runs-out : t ≡ most
+        → (record { poll = Pending; notices = n + 1; turns = t } ≡ polling acts post most 0 0 (group-in entry) .answer)
+        × (here ≡ with-group entry (polling acts post most 0 0 (group-in entry) .group))
     unfolding polling
     runs-out all =
-        let none : 61 - t ≡ 0 = omega arith in
-        let o : found acts post (group-in entry) ≡ record { answer = record { poll = Pending; notices = n + 1; turns = t }; group = group-in here }
-        = whole ∙ ap (λ k. polling acts post k n t (group-in here)) none in (
+        let none : most - t ≡ 0 = omega arith in
+        let o : polling acts post most 0 0 (group-in entry) ≡ record { answer = record { poll = Pending; notices = n + 1; turns = t }; group = group-in here }
+        = sym so-far ∙ ap (λ k. polling acts post k n t (group-in here)) none in (
           sym (ap (λ (x : Outcome F (Found A)). x .answer) o),
-          around ∙ ap (λ s. with-group s (group-in here)) listens ∙ ap (λ (x : Outcome F (Found A)). with-group entry (x .group)) (sym o),
+          around ∙ ap (λ (x : Outcome F (Found A)). with-group entry (x .group)) (sym o),
         )

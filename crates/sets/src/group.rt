@@ -4,7 +4,7 @@ ghost use mathlib.Core.Bool.{cond};
 ghost use mathlib.Core.List.{_++_};
 ghost use mathlib.Core.Path.{_≡_};
 ghost use Rattle.sets.specs.Ground.{ground, fresh-ground, group-in, with-group, Given-back, Sound};
-ghost use Rattle.sets.specs.Group.{joined, found, polled, turn as turn-of, woken-at, woken-if};
+ghost use Rattle.sets.specs.Group.{joined, found, polled, polling, turn as turn-of, woken-at, woken-if};
 ghost use Rattle.slots.specs.Table.{full, occupied-at, len as tasks-in};
 ghost use Rattle.std.specs.declared.result.Result.the-variants.{Ok, Err};
 ghost use Rattle.wakes.specs.Wakes.{notice, held as wakes-held, with-wakes, records-of, Sound as SoundWakes};
@@ -157,7 +157,45 @@ impl<'a, F: Copy> TaskGroup<'a, F> {
         }
     }
 
-    // Takes turns until a task gives an answer, and leaves that task in its slot.
+    // Takes turns until a task gives an answer, nothing waits, or so many were taken.
+    fn take_turns<P: PollFn<F>>(
+        &mut self,
+        most: u32,
+        post: &[u64],
+    ) -> Polled<Option<Found<P::Answer>>>
+        requires { ⌜ Sound (now self) ⌝ ∗ ⌜ most ≤ 61 ⌝ }
+        ensures answer { λ r. ⌜ r ≡ polling (P·PollFn .acts) (now (post .entry)) most 0 0 (group-in (ground (now (self .entry)))) .answer ⌝ }
+        ensures after { λ _. ⌜ ground (now (self .exit)) ≡ with-group (ground (now (self .entry))) (polling (P·PollFn .acts) (now (post .entry)) most 0 0 (group-in (ground (now (self .entry)))) .group) ⌝ }
+        ensures sound { λ _. ⌜ Sound (now (self .exit)) ⌝ }
+    {
+        let mut notices = 0;
+        for turns in 0..most {
+            match self.turn::<P>(post) {
+                Turn::Idle => {
+                    return Polled {
+                        poll: Poll::Pending,
+                        notices,
+                        turns,
+                    };
+                }
+                Turn::Served(more) => notices += more,
+                Turn::Gave(more, slot, answer) => {
+                    return Polled {
+                        poll: Poll::Ready(Some(Found { slot, answer })),
+                        notices: notices + more,
+                        turns: turns + 1,
+                    };
+                }
+            }
+        }
+        Polled {
+            poll: Poll::Pending,
+            notices: notices + 1,
+            turns: most,
+        }
+    }
+
+    // Polls the tasks that wait until one gives an answer, and leaves that task in its slot.
     pub fn poll_inner_no_remove<P: PollFn<F>>(
         &mut self,
         post: &[u64],
@@ -175,29 +213,7 @@ impl<'a, F: Copy> TaskGroup<'a, F> {
             };
         }
         self.shared.register();
-        let mut notices = 0;
-        for turns in 0..MAX {
-            match self.turn::<P>(post) {
-                Turn::Idle => return Polled {
-                    poll: Poll::Pending,
-                    notices,
-                    turns,
-                },
-                Turn::Served(more) => notices += more,
-                Turn::Gave(more, slot, answer) => {
-                    return Polled {
-                        poll: Poll::Ready(Some(Found { slot, answer })),
-                        notices: notices + more,
-                        turns: turns + 1,
-                    };
-                }
-            }
-        }
-        Polled {
-            poll: Poll::Pending,
-            notices: notices + 1,
-            turns: MAX,
-        }
+        self.take_turns::<P>(MAX, post)
     }
 }
 
