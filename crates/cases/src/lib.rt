@@ -1,4 +1,6 @@
 // Worked runs: computed from the definitions, and tried on the code.
+#![tactic(auto)]
+
 pub mod bounded;
 #[cfg(test)]
 mod bounded_tests;

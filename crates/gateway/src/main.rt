@@ -1,5 +1,7 @@
 // A trading gateway's reply desk: it reads a day's script, holds the waiting orders in one bounded set, and prints
 // what happens.
+#![tactic(auto)]
+
 use std::io;
 
 mod desk;

@@ -1,4 +1,6 @@
 // Sets of futures that complete in the order of their pushes.
+#![tactic(auto)]
+
 pub mod bounded_tasks;
 pub mod ordered_queue;
 pub mod round;

@@ -1,4 +1,6 @@
 // Parking: finished outputs that wait for their turn.
+#![tactic(auto)]
+
 pub mod heap;
 pub mod index_heap;
 pub mod pairs;

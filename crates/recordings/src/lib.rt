@@ -1,4 +1,6 @@
 // Recordings of runs, as text: what each line says.
+#![tactic(auto)]
+
 pub mod call;
 pub mod line;
 pub mod make;

@@ -1,4 +1,6 @@
 // Carries out recordings of runs on the library, compares every answer, and prints what differs.
+#![tactic(auto)]
+
 ghost use Rattle.std.specs.Prelude.{◌≡◌, is_ok, ◌==◌};
 
 use anyhow::anyhow;

@@ -1,4 +1,6 @@
 // Recorded calls, carried out on the library, and their answers as a recording has them.
+#![tactic(auto)]
+
 pub mod answer;
 pub mod bounded;
 pub mod recorded;

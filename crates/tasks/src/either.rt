@@ -39,11 +39,11 @@ impl<F: Future, G: Future> Future for Either<F, G> {
       | Left x ↦
           λ post o e.
           let r = left_ready (F.Future.acts.answers x post) o e in
-          ap (either_ticket Output-as-Ticketed-1.bearing Output-as-Ticketed-2.bearing) (sym r.1.1) ∙ F.Future.output_bears_the_ticket x post r.0 r.1.0
+          ap (either_ticket F.Output.Ticketed.bearing G.Output.Ticketed.bearing) (sym r.1.1) ∙ F.Future.output_bears_the_ticket x post r.0 r.1.0
       | Right y ↦
           λ post o e.
           let r = right_ready (G.Future.acts.answers y post) o e in
-          ap (either_ticket Output-as-Ticketed-1.bearing Output-as-Ticketed-2.bearing) (sym r.1.1) ∙ G.Future.output_bears_the_ticket y post r.0 r.1.0
+          ap (either_ticket F.Output.Ticketed.bearing G.Output.Ticketed.bearing) (sym r.1.1) ∙ G.Future.output_bears_the_ticket y post r.0 r.1.0
     ] };
 
     fn poll(&mut self, post: &[u64]) -> (bool, Poll<Either<F::Output, G::Output>>) {

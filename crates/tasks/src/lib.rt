@@ -1,4 +1,6 @@
 // What a set or a merge holds, and the words in which it answers.
+#![tactic(auto)]
+
 pub mod countdown;
 pub mod either;
 pub mod fault;

@@ -7,8 +7,8 @@ use Rattle.parking.specs.Heaps.{rank_at, ButBelow, Heaped}
 use Rattle.std.proofs.lemmas.List.{length-take-le}
 use Rattle.std.specs.List.{swap}
 
-pub sift-down-requires : goal.sift-down-requires
-sift-down-requires g c =
+pub sift_down-requires : goal.sift_down-requires
+sift_down-requires g c =
     let xs = c.args.entries.now in
     let zs = c.swap.new.self in
     let last = length xs - 1 in
@@ -20,12 +20,12 @@ pub returns-then-at-eq0 : goal.returns-then-at-eq0
 returns-then-at-eq0 g c =
     let xs = c.args.entries.now in
     let zs = c.swap.new.self in
-    let ys = c.sift-down.new.entries in
+    let ys = c.sift_down.new.entries in
     let last = length xs - 1 in
     let m : Moved xs ys (put_mid 0 (last - 0) zs ys) c.args.at last
-    = moved xs zs ys c.args.at last (omega arith) c.requires.0 c.swap.ensures.len c.swap.ensures.after c.swap.ensures.permutation c.sift-down.ensures.same in
+    = moved xs zs ys c.args.at last (omega arith) c.requires.0 c.swap.ensures.len c.swap.ensures.after c.swap.ensures.permutation c.sift_down.ensures.same in
     record {
-      order = subst (λ l. Heaped g.T.Rank.rank l) (sym m.front) c.sift-down.ensures.order;
+      order = subst (λ l. Heaped g.T.Rank.rank l) (sym m.front) c.sift_down.ensures.order;
       same = m.same;
       last = m.whole c.index-entries-at.result c.index-entries-at.is;
       rank = rank_read g.T.Rank.rank xs c.args.at c.index-entries-at.result c.requires.0 c.index-entries-at.is;
@@ -35,12 +35,12 @@ pub returns-else-at-eq0 : goal.returns-else-at-eq0
 returns-else-at-eq0 g c =
     let xs = c.args.entries.now in
     let zs = c.swap.new.self in
-    let ys = c.put-in-order.new.entries in
+    let ys = c.put_in_order.new.entries in
     let last = length xs - 1 in
     let m : Moved xs ys (put_mid 0 (last - 0) zs ys) c.args.at last
-    = moved xs zs ys c.args.at last (omega arith) c.requires.0 c.swap.ensures.len c.swap.ensures.after c.swap.ensures.permutation c.put-in-order.ensures.same in
+    = moved xs zs ys c.args.at last (omega arith) c.requires.0 c.swap.ensures.len c.swap.ensures.after c.swap.ensures.permutation c.put_in_order.ensures.same in
     record {
-      order = subst (λ l. Heaped g.T.Rank.rank l) (sym m.front) c.put-in-order.ensures.order;
+      order = subst (λ l. Heaped g.T.Rank.rank l) (sym m.front) c.put_in_order.ensures.order;
       same = m.same;
       last = m.whole c.index-entries-at.result c.index-entries-at.is;
       rank = rank_read g.T.Rank.rank xs c.args.at c.index-entries-at.result c.requires.0 c.index-entries-at.is;

@@ -9,7 +9,7 @@ returns-then-index-least g c = λ k lt e.
     omega (arith, e, c.in-Some.ensures, c.if-index-least.true, least_first (rank_at (place_rank index_of) c.args.places.now) c.args.count c.requires.1 k lt)
 
 pub loop-at-preserved : goal.loop-at-preserved
-loop-at-preserved g c = below_more _ _ c.loop-at.invariant (c.bears_index.ensures.no c.if-has-index.false)
+loop-at-preserved g c = below_more _ _ c.loop-at.invariant (c.has_index.ensures.no c.if-has_index.false)
 
 pub returns : goal.returns
 returns g c = λ k lt e. c.loop-at.invariant k (omega arith) e

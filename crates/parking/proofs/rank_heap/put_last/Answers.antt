@@ -4,8 +4,8 @@ use Rattle.parking.proofs.rank_heap.put_last.Goals as goal
 use Rattle.parking.specs.Places.{place_rank}
 use Rattle.std.proofs.lemmas.List.{length-set}
 
-pub sift-up-requires : goal.sift-up-requires
-sift-up-requires g c =
+pub sift_up-requires : goal.sift_up-requires
+sift_up-requires g c =
     let xs = c.args.places.now in
     let last = length xs - 1 in
     let r = place_rank g.E.Rank.rank in (

@@ -9,7 +9,7 @@ use Rattle.std.specs.Str.Parse.{IsNumeral, digits_value}
 pub returns-in-Ok : goal.returns-in-Ok
 returns-in-Ok c =
     let plain : get_or c.args.word.now 0 0 ≡ 43 → ⊥
-    = λ e. both_ways c.starts-with.result c.if-starts-with.false
-    ((starts_char 43 c.args.word.now c.starts-with.result c.starts-with.ensures.cases (lit< tt) (lit< tt)).1 e) in
+    = λ e. both_ways c.starts_with.result c.if-starts_with.false
+    ((starts_char 43 c.args.word.now c.starts_with.result c.starts_with.ensures.cases (lit< tt) (lit< tt)).1 e) in
     let Read : List ℕ → Type 0 = λ ds. (IsNumeral 10 ds × (digits_value 10 ds < 2 ^ 64)) × (c.in-Ok.n ≡ digits_value 10 ds) in
     subst Read (no_plus c.args.word.now plain) c.in-Ok.ensures.value.0

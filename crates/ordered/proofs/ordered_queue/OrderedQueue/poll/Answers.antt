@@ -7,8 +7,8 @@ use Rattle.ordered.specs.Queue.{line_of, Sound}
 use Rattle.parking.specs.Bags.{bears_index}
 use Rattle.tasks.specs.Orders.{index_raised}
 
-pub poll-tasks-requires : goal.poll-tasks-requires
-poll-tasks-requires g c =
+pub poll_tasks-requires : goal.poll_tasks-requires
+poll_tasks-requires g c =
     let line = line_of g.S.TaskSet.model g.P.Parking.bag g.P.Parking.places g.P.Parking.rest in
     let q = c.housekeep.new.self in
     let h = line q in
@@ -52,7 +52,7 @@ returns-in-None g c =
     let none = none_bears h.outgoing h.parked (count_ascending (bears_index h.outgoing) (g.P.Parking.bag q.queued_outputs) ∙ e.bag.0) in
     let is = polls_tasks g.S.TaskSet.below g.P.Parking.full g.S.TaskSet.Inv g.S.TaskSet.labels s h t c.args.post.now c.housekeep.ensures.after same none in
     record {
-      answer = c.poll-tasks.ensures.answer ∙ ap (λ (o : Outcome _ _ _). o.answer) (sym is);
-      after = c.poll-tasks.ensures.after ∙ ap (λ (o : Outcome _ _ _). o.set) (sym is);
-      sound = c.poll-tasks.ensures.sound;
+      answer = c.poll_tasks.ensures.answer ∙ ap (λ (o : Outcome _ _ _). o.answer) (sym is);
+      after = c.poll_tasks.ensures.after ∙ ap (λ (o : Outcome _ _ _). o.set) (sym is);
+      sound = c.poll_tasks.ensures.sound;
     }

@@ -13,14 +13,14 @@ returns-in-None g c =
       sound = c.requires;
     }
 
-pub returns-in-Some-take-at : goal.returns-in-Some-take-at
-returns-in-Some-take-at g c =
+pub returns-in-Some-take_at : goal.returns-in-Some-take_at
+returns-in-Some-take_at g c =
     let h = c.args.self.now in
-    let e = c.in-Some-take-at.ensures in
+    let e = c.in-Some-take_at.ensures in
     let f = c.in-Some.ensures in
     record {
-      taken = took (entries_in (used h)) (entries_in (used c.take-at.new.self)) c.args.index c.in-Some-take-at.pair e.gave
-          (rank_there h.memory.now h.count c.in-Some.at c.args.index (Some c.in-Some-take-at.pair) f.0 f.1 e.rank);
+      taken = took (entries_in (used h)) (entries_in (used c.take_at.new.self)) c.args.index c.in-Some-take_at.pair e.gave
+          (rank_there h.memory.now h.count c.in-Some.at c.args.index (Some c.in-Some-take_at.pair) f.0 f.1 e.rank);
       rest = e.rest;
       sound = e.sound;
     }

@@ -7,8 +7,8 @@ use Rattle.sets.specs.BoundedSet.{set_of}
 
 pub returns : goal.returns
 returns c = record {
-  answer = c.call-on.ensures.answer;
-  after = c.call-on.ensures.after;
-  own = subst (GivesBack c.args.call) (sym c.call-on.ensures.answer)
+  answer = c.call_on.ensures.answer;
+  after = c.call_on.ensures.after;
+  own = subst (GivesBack c.args.call) (sym c.call_on.ensures.answer)
       (own_inputs (set_of c.args.self.now) c.args.call c.args.post.now);
 }

@@ -15,4 +15,4 @@ returns-then-key-self g c =
 pub returns : goal.returns
 returns g c =
     let m = c.args.self.now in
-    c.get-in.ensures.task ∙ ap task_in (sym (nth_between m.slots.now m.start m.end c.args.key c.requires.1 c.if-key-self.false))
+    c.get_in.ensures.task ∙ ap task_in (sym (nth_between m.slots.now m.start m.end c.args.key c.requires.1 c.if-key-self.false))

@@ -22,18 +22,18 @@ returns-then-key-end g c =
       within = tt;
     }
 
-pub overflow-add-self : goal.overflow-add-self
-overflow-add-self g c =
+pub overflow_add-self : goal.overflow_add-self
+overflow_add-self g c =
     let m = c.args.self.now in
-    let i = insert_part m.slots.now c.insert-in-next-free.new.slots m.start m.end m.free_head m.filled c.requires
-    c.insert-in-next-free.result c.args.task c.if-key-end.false c.insert-in-next-free.ensures.slots c.insert-in-next-free.ensures.next in
+    let i = insert_part m.slots.now c.insert_in-next_free.new.slots m.start m.end m.free_head m.filled c.requires
+    c.insert_in-next_free.result c.args.task c.if-key-end.false c.insert_in-next_free.ensures.slots c.insert_in-next_free.ensures.next in
     omega (arith, i.room, c.requires.1)
 
 pub returns : goal.returns
 returns g c =
     let m = c.args.self.now in
-    let i = insert_part m.slots.now c.insert-in-next-free.new.slots m.start m.end m.free_head m.filled c.requires
-    c.insert-in-next-free.result c.args.task c.if-key-end.false c.insert-in-next-free.ensures.slots c.insert-in-next-free.ensures.next in
+    let i = insert_part m.slots.now c.insert_in-next_free.new.slots m.start m.end m.free_head m.filled c.requires
+    c.insert_in-next_free.result c.args.task c.if-key-end.false c.insert_in-next_free.ensures.slots c.insert_in-next_free.ensures.next in
     record {
       answer = sym (cond-false (full (between m.start m.end m.slots.now)) _ _ i.is_open);
       after = i.held;

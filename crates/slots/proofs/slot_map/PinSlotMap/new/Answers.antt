@@ -15,8 +15,8 @@ returns g c =
     let a = c.args.start in
     let e = c.args.end in
     let long : length (between a e xs) ≡ e - a = length-between xs a e c.requires.1 in
-    let is : c.fresh-in.new.slots ≡ fresh_slots (e - a) = c.fresh-in.ensures ∙ ap (λ n. fresh_slots n) long in
-    let there = change_part xs c.fresh-in.new.slots a e 0 0 c.requires.0 c.requires.1
+    let is : c.fresh_in.new.slots ≡ fresh_slots (e - a) = c.fresh_in.ensures ∙ ap (λ n. fresh_slots n) long in
+    let there = change_part xs c.fresh_in.new.slots a e 0 0 c.requires.0 c.requires.1
     (ap length is ∙ length-map-range_with_len (λ i. NextFree (i + 1)) 0 (e - a) ∙ sym long)
     (subst (λ ss. Chained ss 0) (sym is) (fresh_chained g.row.F.Denot (e - a)))
     (sym (fresh_len g.row.F.Denot (e - a)) ∙ ap len (sym is)) in

@@ -10,8 +10,8 @@ returns c =
     let xs = c.args.records.now in
     let a = c.args.start in
     let e = c.args.end in
-    let there = change_part xs c.fresh-in.new.records a e (record { head = 0; tail = 0; waiting = 0 }) [] false
-    c.requires.0 c.requires.1 c.fresh-in.auto.records refl (nothing_waits c.fresh-in.new.records c.fresh-in.ensures) in
+    let there = change_part xs c.fresh_in.new.records a e (record { head = 0; tail = 0; waiting = 0 }) [] false
+    c.requires.0 c.requires.1 c.fresh_in.auto.records refl (nothing_waits c.fresh_in.new.records c.fresh_in.ensures) in
     record {
       fresh = there.held ∙ ap (λ n. let h : Held = record { before = take a xs; places = n; wakes = fresh; beyond = drop e xs } in h) (length-between xs a e c.requires.1);
       sound = there.sound;
