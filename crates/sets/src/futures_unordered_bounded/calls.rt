@@ -32,7 +32,7 @@ impl<'a, F: Future + Copy> FuturesUnorderedBounded<'a, F> {
         records: &'a mut [WakeRecord],
     ) -> FuturesUnorderedBounded<'a, F>
         ensures fresh { set_of result ≡ made name slots.old records.old }
-        ensures promises { Promises (step F.Future.acts) (set_of result) F.Ticketed.bearing Output-as-Ticketed.bearing elements how_many }
+        ensures promises { Promises (step F.Future.acts) (set_of result) F.Ticketed.bearing F.Output.Ticketed.bearing elements how_many }
         ensures wakers { WakerLaws (step F.Future.acts) (set_of result) queued how_many }
         ensures never_again { NeverAgain F.Future.acts (set_of result) }
     {
