@@ -107,7 +107,7 @@ impl<S: TaskSet, P: Parking<Output = S::Output>> OrderedQueue<S, P> {
 
     // Yields an output that is next in turn, and parks any other.
     fn settle(&mut self, index: u64, output: S::Output) -> Round<S::Output>
-        requires { (index == self.old).next_outgoing_index ≡ false → Fits (P.Parking.places self.old.queued_outputs) (pair index output ∷ P.Parking.bag self.old.queued_outputs) }
+        requires { (index == self.old.next_outgoing_index) ≡ false → Fits (P.Parking.places self.old.queued_outputs) (pair index output ∷ P.Parking.bag self.old.queued_outputs) }
         ensures round { result ≡ settled_round (line_of S.TaskSet.model P.Parking.bag P.Parking.places P.Parking.rest self.old) (pair index output) }
         ensures after { (line_of S.TaskSet.model P.Parking.bag P.Parking.places P.Parking.rest self.new) ≡ settled (line_of S.TaskSet.model P.Parking.bag P.Parking.places P.Parking.rest self.old) (pair index output) }
     {
