@@ -1,13 +1,13 @@
 -- The free slots stay chained, and the tasks counted, through each change of the table.
-use Rattle.std.proofs.Common.{◌≡◌, ℕ, zero, suc, ◌+◌, ◌-◌, ◌<◌, ◌≤◌, Bool, true, false, cond, not, eqb, List, [], ◌∷◌, map, length, get_or, set, is_some, Some, None, count_by, Option, sym, refl, ap, ◌∙◌, subst, ⊎_elim, arith}
+use Rattle.std.proofs.Common.{◌≡◌, ℕ, suc, ◌+◌, ◌-◌, ◌<◌, Bool, true, false, cond, not, List, [], ◌∷◌, map, length, get_or, set, is_some, Some, count_by, sym, refl, ap, ◌∙◌, subst, ⊎_elim, arith}
 use Rattle.lists.proofs.Free.{free_pop, free_push, free_none, free_fresh}
 use Rattle.lists.proofs.Walks.{first_marked}
 use Rattle.lists.specs.Walks.{Free, Chain}
 use Rattle.slots.specs.Flips.{slot_flipped}
-use Rattle.slots.specs.Table.{vacant, occupied, next, task_in, task_at, next_link, occupied_at, len, full, Chained, fresh_slots}
+use Rattle.slots.specs.Table.{vacant, occupied, next, task_in, next_link, occupied_at, len, full, Chained, fresh_slots}
 use Rattle.slots.specs.declared.slot.Slot.{Slot}
 use Rattle.slots.specs.declared.slot.Slot.TheVariants.{Occupied, NextFree}
-use Rattle.std.proofs.lemmas.List.{get_or-map, length-map, map-set, set-get_or, length-set}
+use Rattle.std.proofs.lemmas.List.{get_or-map, length-map, map-set, set-get_or}
 use Rattle.std.proofs.lemmas.Option.{slice_get-get_or, slice_get_past}
 use Rattle.std.proofs.lemmas.List.Sums.{sum_by-cons, sum_by-set}
 use Rattle.std.proofs.lemmas.Bool.{both_ways, eqb-true, eqb-false, cases_lt}

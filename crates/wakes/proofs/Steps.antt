@@ -1,5 +1,5 @@
 -- What joining and leaving do to the queue that is kept in the wake records.
-use Rattle.std.proofs.Common.{◌≡◌, ℕ, zero, suc, ◌+◌, ◌-◌, ◌<◌, ◌≤◌, Bool, true, false, cond, not, List, [], ◌∷◌, ◌++◌, map, length, get_or, set, Some, None, count_by, Option, sym, refl, ap, ◌∙◌, subst, arith}
+use Rattle.std.proofs.Common.{◌≡◌, ℕ, zero, suc, ◌+◌, ◌-◌, ◌<◌, Bool, true, false, cond, not, List, [], ◌∷◌, ◌++◌, length, get_or, set, Some, count_by, sym, refl, ap, ◌∙◌, subst, arith}
 use Rattle.lists.proofs.Walks.{chain_one, chain_back, walk_back, chain_rest, first_within, last_within, last_push, last_rest, room}
 use Rattle.lists.specs.Queues.{enqueued, first, rest}
 use Rattle.lists.specs.Walks.{walk, member, last_or, Chain}

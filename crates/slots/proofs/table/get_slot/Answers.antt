@@ -1,4 +1,4 @@
-use Rattle.std.proofs.Common.{false, length, sym, refl, arith}
+use Rattle.std.proofs.Common.{false, length, sym, refl}
 use Rattle.slots.proofs.table.get_slot.Goals as goal
 use Rattle.std.proofs.lemmas.Option.{slice_get_read, slice_get_past}
 use Rattle.std.proofs.lemmas.Bool.{both_ways}

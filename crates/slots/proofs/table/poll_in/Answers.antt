@@ -1,4 +1,4 @@
-use Rattle.std.proofs.Common.{set, Some, None, sym, ap, ◌∙◌}
+use Rattle.std.proofs.Common.{set, Some, sym, ap, ◌∙◌}
 use Rattle.slots.proofs.SlotReads.{read_occupied, read_vacant, read_past}
 use Rattle.slots.proofs.table.poll_in.Goals as goal
 use Rattle.slots.specs.Polls.{pair_of, slots_after}

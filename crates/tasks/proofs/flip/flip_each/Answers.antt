@@ -1,4 +1,4 @@
-use Rattle.std.proofs.Common.{◌≡◌, ◌++◌, map, drop, set, sym, ap, ◌∙◌, arith}
+use Rattle.std.proofs.Common.{◌++◌, map, drop, set, ap, ◌∙◌, arith}
 use Rattle.std.proofs.lemmas.List.Edits.{map_over_more}
 use Rattle.std.proofs.lemmas.List.{take_all, drop_all, append-nil}
 use Rattle.tasks.proofs.flip.flip_each.Goals as goal

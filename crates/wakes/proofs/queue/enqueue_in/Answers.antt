@@ -1,4 +1,4 @@
-use Rattle.std.proofs.Common.{◌≡◌, ℕ, ◌+◌, ◌<◌, List, set, sym, ap, ◌∙◌, subst, arith}
+use Rattle.std.proofs.Common.{◌+◌, List, set, sym, ap, ◌∙◌, subst, arith}
 use Rattle.wakes.proofs.Steps.{Joined, joins_empty, joins_behind, room_for, joined_yes, joined_no, stays, tail_within}
 use Rattle.wakes.proofs.queue.enqueue_in.Goals as goal
 use Rattle.wakes.proofs.queue.enqueue_in.Goals.{then-queue-eq0, else-queue-eq0}

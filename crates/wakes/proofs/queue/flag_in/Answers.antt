@@ -1,7 +1,7 @@
-use Rattle.std.proofs.Common.{◌≡◌, ℕ, Bool, false, get_or, set, sym, ap, ◌∙◌}
+use Rattle.std.proofs.Common.{false, get_or, set, sym, ap, ◌∙◌}
 use Rattle.std.proofs.lemmas.List.{get_or-map, map-set, set-get_or}
 use Rattle.wakes.proofs.queue.flag_in.Goals as goal
-use Rattle.wakes.specs.Queue.{flags, links}
+use Rattle.wakes.specs.Queue.{links}
 use Rattle.wakes.specs.declared.wake_record.WakeRecord.{WakeRecord}
 
 pub returns : goal.returns

@@ -1,4 +1,4 @@
-use Rattle.std.proofs.Common.{◌≡◌, ◌-◌, ◌≤◌, length, sym, ap, ◌∙◌, subst}
+use Rattle.std.proofs.Common.{◌≤◌, sym, ap, ◌∙◌, subst}
 use Rattle.lists.proofs.MemoryParts.{nth_between}
 use Rattle.slots.proofs.SlotReads.{read_past}
 use Rattle.slots.proofs.slot_map.PinSlotMap.get.Goals as goal

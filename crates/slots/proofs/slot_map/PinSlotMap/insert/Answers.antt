@@ -1,12 +1,10 @@
-use Rattle.std.proofs.Common.{◌≡◌, ◌+◌, ◌-◌, ◌<◌, ◌≤◌, true, false, cond, List, length, set, sym, refl, ap, ◌∙◌, subst, arith}
+use Rattle.std.proofs.Common.{◌≡◌, ◌<◌, ◌≤◌, true, sym, ap, subst, arith}
 use Rattle.std.specs.List.{between}
 use Rattle.slots.proofs.HeldParts.{inserted_full, past_full, insert_part}
 use Rattle.slots.proofs.slot_map.PinSlotMap.insert.Goals as goal
-use Rattle.slots.specs.Held.{Held, held, with_table}
-use Rattle.slots.specs.Table.{Table, full, inserted, len, next_link}
-use Rattle.slots.specs.declared.slot.Slot.TheVariants.{Occupied}
+use Rattle.slots.specs.Held.{held, with_table}
+use Rattle.slots.specs.Table.{full}
 use Rattle.std.proofs.lemmas.List.Edits.{length-between}
-use Rattle.std.proofs.lemmas.List.{length-set}
 use Rattle.std.proofs.lemmas.Bool.{cond-true, cond-false}
 
 pub returns-then-key-end : goal.returns-then-key-end

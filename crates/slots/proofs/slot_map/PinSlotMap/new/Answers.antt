@@ -1,4 +1,4 @@
-use Rattle.std.proofs.Common.{◌≡◌, ◌+◌, ◌-◌, length, take, drop, sym, refl, ap, ◌∙◌, subst}
+use Rattle.std.proofs.Common.{◌≡◌, ◌+◌, ◌-◌, length, take, drop, sym, ap, ◌∙◌, subst}
 use Rattle.slots.proofs.Chained.{fresh_chained, fresh_len}
 use Rattle.slots.proofs.HeldParts.{change_part}
 use Rattle.slots.proofs.slot_map.PinSlotMap.new.Goals as goal

@@ -1,4 +1,3 @@
-use Rattle.std.proofs.Common.{◌≡◌, true, false, sym, refl, ap, ◌∙◌, subst}
 use Rattle.slots.proofs.HeldParts.{polled_part}
 use Rattle.slots.proofs.slot_map.PinSlotMap.poll_at.Goals as goal
 

@@ -1,4 +1,4 @@
-use Rattle.std.proofs.Common.{sym, refl, arith}
+use Rattle.std.proofs.Common.{sym}
 use Rattle.slots.proofs.HeldParts.{remove_part, same_part, removed_not}
 use Rattle.slots.proofs.slot_map.PinSlotMap.remove.Goals as goal
 use Rattle.slots.specs.Held.{held}

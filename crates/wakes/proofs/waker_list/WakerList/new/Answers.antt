@@ -1,4 +1,4 @@
-use Rattle.std.proofs.Common.{◌≡◌, ◌-◌, false, [], length, take, drop, refl, ap, ◌∙◌}
+use Rattle.std.proofs.Common.{false, [], take, drop, refl, ap, ◌∙◌}
 use Rattle.std.proofs.lemmas.List.Edits.{length-between}
 use Rattle.wakes.proofs.HeldParts.{change_part}
 use Rattle.wakes.proofs.Steps.{nothing_waits}
