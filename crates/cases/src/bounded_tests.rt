@@ -3,7 +3,7 @@ use sets::futures_unordered_bounded::FuturesUnorderedBounded;
 use sets::futures_unordered_bounded::ending::Ending;
 use sets::memory::Memory;
 use slots::slot::Slot;
-use std::test::*;
+use std::process::Abort;
 use tasks::countdown::Countdown;
 use tasks::either::Either;
 use tasks::fault::{Fault, Refused};
@@ -133,11 +133,11 @@ fn spend(
 }
 
 macro_rules! on_a_set {
-    ($slots:expr, $records:expr, $run:ident) => {{
+    ($rt:expr, $slots:expr, $records:expr, $run:ident) => {{
         let mut slots = [SLOT; $slots];
         let mut records = [RECORD; $records];
         let mut set = FuturesUnorderedBounded::new(1, &mut slots, &mut records);
-        let outcome = $run(&mut set);
+        $run($rt, &mut set);
         match set.take_apart() {
             Ending::Ended(memory) => {
                 let Memory { slots: _, records: _ } = memory;
@@ -146,109 +146,101 @@ macro_rules! on_a_set {
                 let Memory { slots: _, records: _ } = left.abandon();
             }
         }
-        outcome
     }};
 }
 
-fn no_slot_run(set: &mut FuturesUnorderedBounded<Task>) -> Result<(), Fail> {
-    assert_eq!(
+fn no_slot_run(rt: &impl Abort, set: &mut FuturesUnorderedBounded<Task>) {
+    assert_eq!(rt;
         set.push(letter(1, 0)),
         refused(Fault::NoVacantSlot { capacity: 0 }, letter(1, 0))
     );
-    assert_eq!(set.poll(&[]), none());
-    Ok(())
+    assert_eq!(rt; set.poll(&[]), none());
 }
 
 #[test]
-fn no_slot() -> Result<(), Fail> {
-    on_a_set!(0, 0, no_slot_run)
+fn no_slot(rt: HostRuntime) {
+    on_a_set!(&rt, 0, 0, no_slot_run)
 }
 
-fn two_slots_run(set: &mut FuturesUnorderedBounded<Task>) -> Result<(), Fail> {
-    assert_eq!(set.push(letter(1, 0)), Ok(0));
-    assert_eq!(set.push(letter(2, 0)), Ok(1));
-    assert_eq!(
+fn two_slots_run(rt: &impl Abort, set: &mut FuturesUnorderedBounded<Task>) {
+    assert_eq!(rt; set.push(letter(1, 0)), Ok(0));
+    assert_eq!(rt; set.push(letter(2, 0)), Ok(1));
+    assert_eq!(rt;
         set.push(letter(3, 0)),
         refused(Fault::NoVacantSlot { capacity: 2 }, letter(3, 0))
     );
-    assert_eq!(set.len(), 2);
-    assert_eq!(set.capacity(), 2);
-    Ok(())
+    assert_eq!(rt; set.len(), 2);
+    assert_eq!(rt; set.capacity(), 2);
 }
 
 #[test]
-fn two_slots() -> Result<(), Fail> {
-    on_a_set!(2, 2, two_slots_run)
+fn two_slots(rt: HostRuntime) {
+    on_a_set!(&rt, 2, 2, two_slots_run)
 }
 
-fn lesser_memory_run(set: &mut FuturesUnorderedBounded<Task>) -> Result<(), Fail> {
-    assert_eq!(set.push(letter(1, 0)), Ok(0));
-    assert_eq!(
+fn lesser_memory_run(rt: &impl Abort, set: &mut FuturesUnorderedBounded<Task>) {
+    assert_eq!(rt; set.push(letter(1, 0)), Ok(0));
+    assert_eq!(rt;
         set.push(letter(2, 0)),
         refused(Fault::NoVacantSlot { capacity: 1 }, letter(2, 0))
     );
-    assert_eq!(set.capacity(), 1);
-    Ok(())
+    assert_eq!(rt; set.capacity(), 1);
 }
 
 #[test]
-fn lesser_memory() -> Result<(), Fail> {
-    on_a_set!(3, 1, lesser_memory_run)
+fn lesser_memory(rt: HostRuntime) {
+    on_a_set!(&rt, 3, 1, lesser_memory_run)
 }
 
-fn push_letters(set: &mut FuturesUnorderedBounded<Task>, n: usize) -> Result<(), Fail> {
+fn push_letters(rt: &impl Abort, set: &mut FuturesUnorderedBounded<Task>, n: usize) {
     for i in 0..n {
-        assert_eq!(set.push(letter(1, 0)), Ok(i));
+        assert_eq!(rt; set.push(letter(1, 0)), Ok(i));
     }
-    Ok(())
 }
 
-fn sixty_run(set: &mut FuturesUnorderedBounded<Task>) -> Result<(), Fail> {
-    push_letters(set, 60)?;
-    assert_eq!(set.poll(&[]), pending(0, 60));
-    Ok(())
-}
-
-#[test]
-fn sixty() -> Result<(), Fail> {
-    on_a_set!(61, 61, sixty_run)
-}
-
-fn sixty_two_run(set: &mut FuturesUnorderedBounded<Task>) -> Result<(), Fail> {
-    push_letters(set, 62)?;
-    assert_eq!(set.poll(&[]), pending(1, 61));
-    assert_eq!(hand(set, 0), Ok(raw(1, 0)));
-    assert_eq!(wake(set, raw(1, 0)), Ok(1));
-    assert_eq!(set.poll(&[]), pending(0, 2));
-    Ok(())
+fn sixty_run(rt: &impl Abort, set: &mut FuturesUnorderedBounded<Task>) {
+    push_letters(rt, set, 60);
+    assert_eq!(rt; set.poll(&[]), pending(0, 60));
 }
 
 #[test]
-fn sixty_two() -> Result<(), Fail> {
-    on_a_set!(62, 62, sixty_two_run)
+fn sixty(rt: HostRuntime) {
+    on_a_set!(&rt, 61, 61, sixty_run)
 }
 
-fn sixty_one_run(set: &mut FuturesUnorderedBounded<Task>) -> Result<(), Fail> {
-    push_letters(set, 61)?;
-    assert_eq!(set.poll(&[]), pending(1, 61));
-    Ok(())
+fn sixty_two_run(rt: &impl Abort, set: &mut FuturesUnorderedBounded<Task>) {
+    push_letters(rt, set, 62);
+    assert_eq!(rt; set.poll(&[]), pending(1, 61));
+    assert_eq!(rt; hand(set, 0), Ok(raw(1, 0)));
+    assert_eq!(rt; wake(set, raw(1, 0)), Ok(1));
+    assert_eq!(rt; set.poll(&[]), pending(0, 2));
 }
 
 #[test]
-fn sixty_one() -> Result<(), Fail> {
-    on_a_set!(61, 61, sixty_one_run)
+fn sixty_two(rt: HostRuntime) {
+    on_a_set!(&rt, 62, 62, sixty_two_run)
 }
 
-fn two_wakes_run(set: &mut FuturesUnorderedBounded<Task>) -> Result<(), Fail> {
-    assert_eq!(set.push(letter(1, 0)), Ok(0));
-    assert_eq!(set.poll(&[0]), pending(0, 1));
-    assert_eq!(hand(set, 0), Ok(raw(1, 0)));
-    assert_eq!(wake_by_ref(set, raw(1, 0)), Ok(1));
-    assert_eq!(wake_by_ref(set, raw(1, 0)), Ok(0));
-    assert_eq!(set.poll(&[0]), pending(0, 1));
-    assert_eq!(set.poll(&[7]), pending(0, 0));
-    assert_eq!(wake(set, raw(1, 0)), Ok(1));
-    assert_eq!(
+fn sixty_one_run(rt: &impl Abort, set: &mut FuturesUnorderedBounded<Task>) {
+    push_letters(rt, set, 61);
+    assert_eq!(rt; set.poll(&[]), pending(1, 61));
+}
+
+#[test]
+fn sixty_one(rt: HostRuntime) {
+    on_a_set!(&rt, 61, 61, sixty_one_run)
+}
+
+fn two_wakes_run(rt: &impl Abort, set: &mut FuturesUnorderedBounded<Task>) {
+    assert_eq!(rt; set.push(letter(1, 0)), Ok(0));
+    assert_eq!(rt; set.poll(&[0]), pending(0, 1));
+    assert_eq!(rt; hand(set, 0), Ok(raw(1, 0)));
+    assert_eq!(rt; wake_by_ref(set, raw(1, 0)), Ok(1));
+    assert_eq!(rt; wake_by_ref(set, raw(1, 0)), Ok(0));
+    assert_eq!(rt; set.poll(&[0]), pending(0, 1));
+    assert_eq!(rt; set.poll(&[7]), pending(0, 0));
+    assert_eq!(rt; wake(set, raw(1, 0)), Ok(1));
+    assert_eq!(rt;
         set.poll(&[7]),
         ready(
             Either::Right(Delivery {
@@ -259,176 +251,173 @@ fn two_wakes_run(set: &mut FuturesUnorderedBounded<Task>) -> Result<(), Fail> {
             1,
         )
     );
-    assert_eq!(set.may_end(), Ok(()));
-    Ok(())
+    assert_eq!(rt; set.may_end(), Ok(()));
 }
 
 #[test]
-fn two_wakes() -> Result<(), Fail> {
-    on_a_set!(1, 1, two_wakes_run)
+fn two_wakes(rt: HostRuntime) {
+    on_a_set!(&rt, 1, 1, two_wakes_run)
 }
 
-fn reused_slot_run(set: &mut FuturesUnorderedBounded<Task>) -> Result<(), Fail> {
-    assert_eq!(set.push(countdown(1, 0, false)), Ok(0));
-    assert_eq!(hand(set, 0), Ok(raw(1, 0)));
-    assert_eq!(set.poll(&[]), ready(Either::Left((1, 0)), 0, 1));
-    assert_eq!(wake(set, raw(1, 0)), Ok(1));
-    assert_eq!(set.push(countdown(2, 0, false)), Ok(0));
-    assert_eq!(set.poll(&[]), ready(Either::Left((2, 0)), 0, 1));
-    assert_eq!(set.poll(&[]), none());
-    Ok(())
-}
-
-#[test]
-fn reused_slot() -> Result<(), Fail> {
-    on_a_set!(1, 1, reused_slot_run)
-}
-
-fn self_wake_run(set: &mut FuturesUnorderedBounded<Task>) -> Result<(), Fail> {
-    assert_eq!(set.push(countdown(1, 2, true)), Ok(0));
-    assert_eq!(set.poll(&[]), ready(Either::Left((1, 0)), 1, 3));
-    Ok(())
+fn reused_slot_run(rt: &impl Abort, set: &mut FuturesUnorderedBounded<Task>) {
+    assert_eq!(rt; set.push(countdown(1, 0, false)), Ok(0));
+    assert_eq!(rt; hand(set, 0), Ok(raw(1, 0)));
+    assert_eq!(rt; set.poll(&[]), ready(Either::Left((1, 0)), 0, 1));
+    assert_eq!(rt; wake(set, raw(1, 0)), Ok(1));
+    assert_eq!(rt; set.push(countdown(2, 0, false)), Ok(0));
+    assert_eq!(rt; set.poll(&[]), ready(Either::Left((2, 0)), 0, 1));
+    assert_eq!(rt; set.poll(&[]), none());
 }
 
 #[test]
-fn self_wake() -> Result<(), Fail> {
-    on_a_set!(1, 1, self_wake_run)
+fn reused_slot(rt: HostRuntime) {
+    on_a_set!(&rt, 1, 1, reused_slot_run)
 }
 
-fn last_vacated_run(set: &mut FuturesUnorderedBounded<Task>) -> Result<(), Fail> {
-    assert_eq!(set.push(countdown(1, 0, false)), Ok(0));
-    assert_eq!(set.push(countdown(2, 0, false)), Ok(1));
-    assert_eq!(set.poll(&[]), ready(Either::Left((1, 0)), 0, 1));
-    assert_eq!(set.poll(&[]), ready(Either::Left((2, 0)), 0, 1));
-    assert_eq!(set.push(countdown(3, 0, false)), Ok(1));
-    assert_eq!(set.push(countdown(4, 0, false)), Ok(0));
-    assert_eq!(set.push(countdown(5, 0, false)), Ok(2));
-    Ok(())
+fn self_wake_run(rt: &impl Abort, set: &mut FuturesUnorderedBounded<Task>) {
+    assert_eq!(rt; set.push(countdown(1, 2, true)), Ok(0));
+    assert_eq!(rt; set.poll(&[]), ready(Either::Left((1, 0)), 1, 3));
 }
 
 #[test]
-fn last_vacated() -> Result<(), Fail> {
-    on_a_set!(3, 3, last_vacated_run)
+fn self_wake(rt: HostRuntime) {
+    on_a_set!(&rt, 1, 1, self_wake_run)
 }
 
-fn no_token_out(set: &mut FuturesUnorderedBounded<Task>) -> Result<(), Fail> {
-    assert_eq!(set.push(letter(1, 0)), Ok(0));
-    assert_eq!(
+fn last_vacated_run(rt: &impl Abort, set: &mut FuturesUnorderedBounded<Task>) {
+    assert_eq!(rt; set.push(countdown(1, 0, false)), Ok(0));
+    assert_eq!(rt; set.push(countdown(2, 0, false)), Ok(1));
+    assert_eq!(rt; set.poll(&[]), ready(Either::Left((1, 0)), 0, 1));
+    assert_eq!(rt; set.poll(&[]), ready(Either::Left((2, 0)), 0, 1));
+    assert_eq!(rt; set.push(countdown(3, 0, false)), Ok(1));
+    assert_eq!(rt; set.push(countdown(4, 0, false)), Ok(0));
+    assert_eq!(rt; set.push(countdown(5, 0, false)), Ok(2));
+}
+
+#[test]
+fn last_vacated(rt: HostRuntime) {
+    on_a_set!(&rt, 3, 3, last_vacated_run)
+}
+
+fn no_token_out(rt: &impl Abort, set: &mut FuturesUnorderedBounded<Task>) {
+    assert_eq!(rt; set.push(letter(1, 0)), Ok(0));
+    assert_eq!(rt;
         hand(set, 1),
         Err(Refused {
             fault: Fault::NoSuchSlot { address: 1 },
             input: 1,
         })
     );
-    assert_eq!(
+    assert_eq!(rt;
         hand(set, 2),
         Err(Refused {
             fault: Fault::NoSuchSlot { address: 2 },
             input: 2,
         })
     );
-    assert_eq!(
+    assert_eq!(rt;
         wake(set, raw(1, 0)),
         Err(Refused {
             fault: Fault::NoTokenOut,
             input: raw(1, 0),
         })
     );
-    assert_eq!(set.may_end(), Ok(()));
-    Ok(())
+    assert_eq!(rt; set.may_end(), Ok(()));
 }
 
-fn one_token_out(set: &mut FuturesUnorderedBounded<Task>) -> Result<(), Fail> {
-    assert_eq!(hand(set, 0), Ok(raw(1, 0)));
-    assert_eq!(set.may_end(), Err(Fault::TokensOut { count: 1 }));
-    assert_eq!(
+fn one_token_out(rt: &impl Abort, set: &mut FuturesUnorderedBounded<Task>) {
+    assert_eq!(rt; hand(set, 0), Ok(raw(1, 0)));
+    assert_eq!(rt; set.may_end(), Err(Fault::TokensOut { count: 1 }));
+    assert_eq!(rt;
         wake(set, raw(7, 9)),
         Err(Refused {
             fault: Fault::OtherName { name: 7 },
             input: raw(7, 9),
         })
     );
-    assert_eq!(
+    assert_eq!(rt;
         spend(set, raw(7, 0)),
         Err(Refused {
             fault: Fault::OtherName { name: 7 },
             input: raw(7, 0),
         })
     );
-    assert_eq!(clone(set, raw(1, 2)), Err(Fault::NoSuchSlot { address: 2 }));
-    assert_eq!(
+    assert_eq!(rt;
+        clone(set, raw(1, 2)),
+        Err(Fault::NoSuchSlot { address: 2 })
+    );
+    assert_eq!(rt;
         wake_by_ref(set, raw(1, 2)),
         Err(Fault::NoSuchSlot { address: 2 })
     );
-    assert_eq!(set.may_end(), Err(Fault::TokensOut { count: 1 }));
-    Ok(())
+    assert_eq!(rt; set.may_end(), Err(Fault::TokensOut { count: 1 }));
 }
 
-fn two_tokens_out(set: &mut FuturesUnorderedBounded<Task>) -> Result<(), Fail> {
-    assert_eq!(clone(set, raw(1, 1)), Ok(raw(1, 1)));
-    assert_eq!(set.may_end(), Err(Fault::TokensOut { count: 2 }));
-    assert_eq!(spend(set, raw(1, 1)), Ok(()));
-    assert_eq!(wake(set, raw(1, 0)), Ok(0));
-    assert_eq!(
+fn two_tokens_out(rt: &impl Abort, set: &mut FuturesUnorderedBounded<Task>) {
+    assert_eq!(rt; clone(set, raw(1, 1)), Ok(raw(1, 1)));
+    assert_eq!(rt; set.may_end(), Err(Fault::TokensOut { count: 2 }));
+    assert_eq!(rt; spend(set, raw(1, 1)), Ok(()));
+    assert_eq!(rt; wake(set, raw(1, 0)), Ok(0));
+    assert_eq!(rt;
         spend(set, raw(1, 0)),
         Err(Refused {
             fault: Fault::NoTokenOut,
             input: raw(1, 0),
         })
     );
-    assert_eq!(set.may_end(), Ok(()));
-    assert_eq!(set.len(), 1);
-    Ok(())
+    assert_eq!(rt; set.may_end(), Ok(()));
+    assert_eq!(rt; set.len(), 1);
 }
 
-fn refusals_run(set: &mut FuturesUnorderedBounded<Task>) -> Result<(), Fail> {
-    no_token_out(set)?;
-    one_token_out(set)?;
-    two_tokens_out(set)
+fn refusals_run(rt: &impl Abort, set: &mut FuturesUnorderedBounded<Task>) {
+    no_token_out(rt, set);
+    one_token_out(rt, set);
+    two_tokens_out(rt, set);
 }
 
 #[test]
-fn refusals() -> Result<(), Fail> {
-    on_a_set!(2, 2, refusals_run)
+fn refusals(rt: HostRuntime) {
+    on_a_set!(&rt, 2, 2, refusals_run)
 }
 
-fn hand_out_most(set: &mut FuturesUnorderedBounded<Task>) -> Result<(), Fail> {
-    assert_eq!(set.push(letter(1, 0)), Ok(0));
+fn hand_out_most(rt: &impl Abort, set: &mut FuturesUnorderedBounded<Task>) {
+    assert_eq!(rt; set.push(letter(1, 0)), Ok(0));
     for _ in 0..65535 {
-        assert_eq!(hand(set, 0), Ok(raw(1, 0)));
+        assert_eq!(rt; hand(set, 0), Ok(raw(1, 0)));
     }
-    Ok(())
 }
 
-fn most_tokens_run(set: &mut FuturesUnorderedBounded<Task>) -> Result<(), Fail> {
-    hand_out_most(set)?;
-    assert_eq!(
+fn most_tokens_run(rt: &impl Abort, set: &mut FuturesUnorderedBounded<Task>) {
+    hand_out_most(rt, set);
+    assert_eq!(rt;
         hand(set, 0),
         Err(Refused {
             fault: Fault::TooManyTokens { out: 65535 },
             input: 0,
         })
     );
-    assert_eq!(
+    assert_eq!(rt;
         hand(set, 1),
         Err(Refused {
             fault: Fault::NoSuchSlot { address: 1 },
             input: 1,
         })
     );
-    assert_eq!(
+    assert_eq!(rt;
         clone(set, raw(1, 0)),
         Err(Fault::TooManyTokens { out: 65535 })
     );
-    assert_eq!(clone(set, raw(1, 5)), Err(Fault::NoSuchSlot { address: 5 }));
-    assert_eq!(clone(set, raw(2, 0)), Err(Fault::OtherName { name: 2 }));
-    assert_eq!(spend(set, raw(1, 0)), Ok(()));
-    assert_eq!(hand(set, 0), Ok(raw(1, 0)));
-    assert_eq!(set.may_end(), Err(Fault::TokensOut { count: 65535 }));
-    Ok(())
+    assert_eq!(rt;
+        clone(set, raw(1, 5)),
+        Err(Fault::NoSuchSlot { address: 5 })
+    );
+    assert_eq!(rt; clone(set, raw(2, 0)), Err(Fault::OtherName { name: 2 }));
+    assert_eq!(rt; spend(set, raw(1, 0)), Ok(()));
+    assert_eq!(rt; hand(set, 0), Ok(raw(1, 0)));
+    assert_eq!(rt; set.may_end(), Err(Fault::TokensOut { count: 65535 }));
 }
 
 #[test]
-fn most_tokens() -> Result<(), Fail> {
-    on_a_set!(2, 2, most_tokens_run)
+fn most_tokens(rt: HostRuntime) {
+    on_a_set!(&rt, 2, 2, most_tokens_run)
 }
