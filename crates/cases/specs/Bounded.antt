@@ -1,8 +1,7 @@
 -- Worked runs of the bounded unordered set, one list, computed from the definitions.
-use Rattle.std.specs.Prelude.{◌≡◌, ℕ, zero, suc, ◌+◌, ◌-◌, Bool, true, false, List, [], ◌∷◌, ◌++◌, map, length, replicate, Some, None, Ok, Err, Option}
+use Rattle.std.specs.Prelude.{◌≡◌, ℕ, zero, suc, ◌+◌, Bool, true, false, List, [], ◌∷◌, ◌++◌, map, replicate, Some, None, Ok, Err, Option}
 use Rattle.runs.specs.Calls.{Call, push, poll, hand, clone, wake, wake_by_ref, drop, may_end, ask, Entry, did, log}
 use Rattle.sets.specs.Bounded.{Bounded, Question, how_many, how_many_can_be, made, with_out, step}
-use Rattle.slots.specs.declared.slot.Slot.{Slot}
 use Rattle.slots.specs.declared.slot.Slot.TheVariants.{NextFree}
 use Rattle.tasks.specs.Acts.{Acts}
 use Rattle.tasks.specs.Kinds.{countdown_acts, letter_acts, either_acts}
@@ -15,7 +14,6 @@ use Rattle.tasks.specs.declared.letter.Delivery.{Delivery}
 use Rattle.tasks.specs.declared.letter.Letter.{Letter}
 use Rattle.tasks.specs.declared.poll.Poll.{Poll}
 use Rattle.tasks.specs.declared.poll.Poll.TheVariants.{Ready, Pending}
-use Rattle.wakes.specs.declared.wake_record.WakeRecord.{WakeRecord}
 use Rattle.wakes.specs.declared.waker.Waker.{Waker}
 
 -- The sets of these runs hold Countdowns and Letters side by side.

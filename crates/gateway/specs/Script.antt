@@ -1,5 +1,5 @@
 -- What a command that was read is good for.
-use Rattle.std.specs.Prelude.{ℕ, ◌<◌, ◌≤◌}
+use Rattle.std.specs.Prelude.{◌<◌, ◌≤◌}
 use Rattle.gateway.specs.declared.script.Command.{Command}
 use Rattle.gateway.specs.declared.script.Command.TheVariants.{Open, Order, Reply, Poll, Held, End}
 

@@ -1,7 +1,7 @@
 -- A free list: what taking its first place and putting a place in front do to it.
-use Rattle.std.proofs.Common.{◌≡◌, ℕ, zero, suc, ◌+◌, ◌<◌, ◌≤◌, Bool, true, false, cond, not, ◌&&◌, ◌||◌, eqb, ltb, List, [], ◌∷◌, map, length, get_or, set, count_by, sym, refl, ap, ◌∙◌, subst, arith}
+use Rattle.std.proofs.Common.{◌≡◌, ℕ, zero, suc, ◌+◌, ◌<◌, ◌≤◌, Bool, true, false, cond, not, ◌||◌, eqb, List, ◌∷◌, map, length, get_or, set, count_by, sym, refl, ap, ◌∙◌, subst, arith}
 use Rattle.lists.specs.Walks.{walk, arrives, member, distinct, Marks, Chain, Free}
-use Rattle.lists.proofs.Walks.{walk_set, arrives_set, first_within, chain_rest, first_not_rest, chain_set, chain_front}
+use Rattle.lists.proofs.Walks.{arrives_set, first_within, chain_rest, first_not_rest, chain_set, chain_front}
 use Rattle.std.proofs.lemmas.List.{get_or-set_same, length-set}
 use Rattle.std.proofs.lemmas.List.FromFn.{get_or-map-range_with_len, length-map-range_with_len}
 use Rattle.std.proofs.lemmas.List.Sums.{sum_by-cons}

@@ -1,5 +1,5 @@
 -- A queue in which each number waits at most once stays one.
-use Rattle.std.proofs.Common.{◌≡◌, ℕ, ◌+◌, Bool, true, false, cond, not, ◌&&◌, ◌||◌, eqb, List, [], ◌∷◌, ◌++◌, count_by, sym, refl, ap, ◌∙◌, arith}
+use Rattle.std.proofs.Common.{◌≡◌, ℕ, Bool, true, false, cond, ◌||◌, eqb, List, [], ◌∷◌, ◌++◌, count_by, refl, ap, ◌∙◌, arith}
 use Rattle.lists.proofs.Walks.{distinct_push, distinct_parts, member_push}
 use Rattle.lists.specs.Queues.{enqueued, rest}
 use Rattle.lists.specs.Walks.{member, distinct}

@@ -1,9 +1,9 @@
 -- What setting a mark and a link does to a list that is kept in links.
-use Rattle.std.proofs.Common.{◌≡◌, ℕ, zero, suc, ◌+◌, ◌<◌, ◌≤◌, Bool, true, false, cond, not, ◌&&◌, ◌||◌, eqb, ◌≢◌, ◌⊎◌, List, [], ◌∷◌, ◌++◌, length, get_or, set, count_by, sym, refl, ap, ◌∙◌, subst, inl, inr, ⊎_elim, arith}
+use Rattle.std.proofs.Common.{◌≡◌, ℕ, zero, suc, ◌+◌, ◌<◌, ◌≤◌, Bool, true, false, cond, not, ◌||◌, eqb, ◌≢◌, List, [], ◌∷◌, ◌++◌, length, get_or, set, count_by, sym, refl, ap, ◌∙◌, subst, ⊎_elim, arith}
 use Rattle.lists.specs.Walks.{walk, arrives, member, distinct, last_or, Marks, Chain}
 use Rattle.std.proofs.lemmas.List.{get_or-set_same, get_or-set_other, get_or_past, length-set}
 use Rattle.std.proofs.lemmas.List.Sums.{sum_by-set, count_by-le-length}
-use Rattle.std.proofs.lemmas.Bool.{or_parts, or_from, and_parts, and_from, not-true, not_from_false, eqb-true, eqb-false, eq-eqb, ne_eqb, cases_eq, cases_lt, true≢false, both_ways, or_left, or_right}
+use Rattle.std.proofs.lemmas.Bool.{or_parts, or_from, and_parts, and_from, not-true, not_from_false, eqb-false, eq-eqb, ne_eqb, cases_eq, cases_lt, both_ways, or_left, or_right}
 
 -- a place that a walk does not pass may be linked anew
 pub walk_set : (links : List ℕ) (i x n h : ℕ) → member i (walk links n h) ≡ false → walk (set links i x) n h ≡ walk links n h

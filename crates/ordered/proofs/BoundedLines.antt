@@ -1,5 +1,5 @@
 -- The bounded set has the laws that an ordered set asks of the set below it.
-use Rattle.std.proofs.Common.{◌≡◌, ℕ, Bool, ltb, List, [], ◌∷◌, ◌++◌, map, drop, count_by, Option, sym, refl, ap, ◌∙◌, arith}
+use Rattle.std.proofs.Common.{◌≡◌, ℕ, ltb, List, [], ◌∷◌, ◌++◌, map, drop, count_by, Option, sym, refl, ap, ◌∙◌, arith}
 use Rattle.ordered.proofs.Counts.{count_map}
 use Rattle.ordered.proofs.OrderedLaws.{ordered_promises, ordered_wakers, ordered_deque, ordered_indices}
 use Rattle.ordered.specs.Below.{Label, label, label_flipped, FlipLaws}

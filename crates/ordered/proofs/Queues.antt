@@ -1,22 +1,21 @@
 -- The steps of an ordered queue's code: pushes, housekeeping, and outputs that are taken or parked.
-use Rattle.std.proofs.Common.{◌≡◌, ℕ, zero, suc, ◌+◌, ◌-◌, ◌%◌, ◌^◌, ◌<◌, ◌≤◌, min, Bool, true, false, cond, ◌&&◌, eqb, ltb, leb, ◌⊎◌, List, [], ◌∷◌, map, length, is_ok, Some, None, Ok, Err, count_by, Option, Result, sym, refl, ap, ◌∙◌, subst, inl, inr, ⊎_elim, arith}
+use Rattle.std.proofs.Common.{◌≡◌, ℕ, ◌^◌, ◌<◌, ◌≤◌, Bool, true, false, cond, eqb, ltb, ◌⊎◌, List, [], ◌∷◌, map, length, is_ok, Some, None, Ok, Err, count_by, Option, Result, sym, refl, ap, ◌∙◌, subst, inl, inr, ⊎_elim, arith}
 use Rattle.ordered.proofs.Counts.{one_if, count_cons, count_map}
-use Rattle.ordered.proofs.Lines.{held_length, held_placed, push_line, flip_line, park_line, poll_turn, line_step, apart_lined, within_lined, ahead_lined}
-use Rattle.ordered.proofs.Parkings.{count_ascending, count_parked_with, Apart, ascending_shuffled, apart_shuffled, ascending_map, ascending_least, all_from_ascending, apart_flipped, NoneAt, none_at}
+use Rattle.ordered.proofs.Lines.{held_placed, push_line, flip_line, park_line, poll_turn, line_step, apart_lined, within_lined, ahead_lined}
+use Rattle.ordered.proofs.Parkings.{count_ascending, count_parked_with, Apart, ascending_shuffled, ascending_map, ascending_least, all_from_ascending, apart_flipped}
 use Rattle.ordered.proofs.Rows.{in_row, length_numbered}
-use Rattle.ordered.specs.Below.{Below, Label, label, FlipLaws, refusal_of, unwrapped}
+use Rattle.ordered.specs.Below.{Below, Label, label, refusal_of, unwrapped}
 use Rattle.ordered.specs.BoundedBelow.{no_ticket}
 use Rattle.ordered.specs.Deques.{joined_if, taken_by, fed}
-use Rattle.ordered.specs.Lined.{Lined, numbered}
-use Rattle.ordered.specs.Ordered.{Ordered, Outcome, Pushing, Side, back, front, room_for, most_places, held, index_for, incoming_after, outgoing_after, wrapped, accepting, accepts, pushed_if, pushed, flipped_if, housekept, with_parked, from_parked, polled_by_turn, outcome, ascending, parked_with, bearing_index, without_index, with_below, step}
-use Rattle.ordered.specs.Queue.{Sound, PushedBy, Secured, Accepting, with_places}
+use Rattle.ordered.specs.Lined.{Lined}
+use Rattle.ordered.specs.Ordered.{Ordered, Outcome, Pushing, Side, back, front, room_for, held, incoming_after, outgoing_after, wrapped, accepting, accepts, pushed_if, pushed, flipped_if, housekept, with_parked, from_parked, polled_by_turn, outcome, ascending, parked_with, bearing_index, without_index, with_below, step}
+use Rattle.ordered.specs.Queue.{Sound, PushedBy, Secured, Accepting}
 use Rattle.ordered.specs.Rounds.{settled}
 use Rattle.parking.specs.Bags.{Fits, Flipped, bears_index, in_run, pair}
 use Rattle.runs.proofs.TicketRuns.{count_all}
 use Rattle.runs.specs.Calls.{Call, entry}
-use Rattle.runs.specs.Laws.{TicketLaws}
 use Rattle.runs.specs.Tokens.{leaves}
-use Rattle.std.proofs.lemmas.Bool.{ltb-true, ltb-false, leb-false, le-leb, lt-leb, eq-eqb, cases_Bool, cond-true, cond-false, cond_both}
+use Rattle.std.proofs.lemmas.Bool.{leb-false, le-leb, lt-leb, eq-eqb, cases_Bool, cond-true, cond-false, cond_both}
 use Rattle.std.proofs.ByRecursion.{all_shuffled}
 use Rattle.std.specs.List.Sorted.{IsPermutation}
 use Rattle.std.specs.List.{AllByRecursion as All}

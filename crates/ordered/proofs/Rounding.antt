@@ -1,5 +1,5 @@
 -- How the rounds of a poll add up to it.
-use Rattle.std.proofs.Common.{◌≡◌, ℕ, zero, suc, ◌+◌, ◌-◌, ◌*◌, ◌<◌, ◌≤◌, Bool, true, false, cond, eqb, List, Some, None, Option, sym, refl, ap, ◌∙◌, subst, arith}
+use Rattle.std.proofs.Common.{◌≡◌, ℕ, suc, ◌+◌, ◌-◌, ◌*◌, ◌<◌, ◌≤◌, Bool, true, false, cond, eqb, List, Some, None, Option, sym, refl, ap, ◌∙◌, subst, arith}
 use Rattle.ordered.proofs.Lines.{park_line, fewer_below, held_placed, polling_turn}
 use Rattle.ordered.proofs.Parkings.{NoneAt, none_at_parked}
 use Rattle.ordered.proofs.Queues.{settled_parked}
@@ -9,10 +9,9 @@ use Rattle.ordered.specs.Deques.{taken_by}
 use Rattle.ordered.specs.Lined.{Lined}
 use Rattle.ordered.specs.Ordered.{Ordered, Outcome, with_below, with_parked, parked_with, in_turn, after_poll, polling}
 use Rattle.ordered.specs.Queue.{Sound}
-use Rattle.ordered.specs.Rounds.{settled, settled_round, round_by, set_by, round_of, set_of_round, polled_below}
+use Rattle.ordered.specs.Rounds.{round_by, set_by, round_of, set_of_round, polled_below}
 use Rattle.ordered.specs.declared.round.Round.{Round}
 use Rattle.ordered.specs.declared.round.Round.TheVariants.{Pending as Waits, Empty, Yielded, Parked}
-use Rattle.std.proofs.lemmas.Bool.{cases_Bool}
 use Rattle.tasks.specs.declared.fault.Fault.{Fault}
 use Rattle.tasks.specs.declared.order_wrapper.OrderWrapper.{OrderWrapper}
 use Rattle.tasks.specs.declared.poll.Poll.{Poll}

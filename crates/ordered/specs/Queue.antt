@@ -1,9 +1,9 @@
 -- What an ordered queue is by the rules, and what it keeps.
-use Rattle.std.specs.Prelude.{◌≡◌, ℕ, ◌≤◌, true, false, cond, ◌⊎◌, List, Some, None, Ok, Err, Option, Result, nat_lt}
+use Rattle.std.specs.Prelude.{◌≡◌, ℕ, ◌≤◌, true, false, ◌⊎◌, List, Some, None, Ok, Err, Option, Result, nat_lt}
 use Rattle.ordered.specs.Below.{Below, Label, label, FlipLaws, refusal_of}
 use Rattle.ordered.specs.BoundedBelow.{no_ticket}
 use Rattle.ordered.specs.Lined.{Lined}
-use Rattle.ordered.specs.Ordered.{Ordered, Pushing, Side, room_for, accepts, pushed, ascending, held, most_places}
+use Rattle.ordered.specs.Ordered.{Ordered, Side, accepts, pushed, ascending, held, most_places}
 use Rattle.ordered.specs.declared.ordered_queue.OrderedQueue.{OrderedQueue}
 use Rattle.runs.specs.Laws.{TicketLaws}
 use Rattle.tasks.specs.declared.fault.Fault.{Fault}

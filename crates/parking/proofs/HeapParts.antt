@@ -1,5 +1,5 @@
 -- What a heap in the first places of a memory holds, as an entry is put in or taken out.
-use Rattle.std.proofs.Common.{◌≡◌, ℕ, suc, ◌+◌, ◌-◌, ◌/◌, ◌<◌, ◌≤◌, List, [], ◌∷◌, ◌++◌, map, length, get_or, take, drop, set, Some, None, Option, sym, refl, ap, ◌∙◌, subst, arith}
+use Rattle.std.proofs.Common.{◌≡◌, ℕ, ◌+◌, ◌-◌, ◌/◌, ◌<◌, ◌≤◌, List, [], ◌∷◌, ◌++◌, map, length, take, drop, set, Some, None, Option, sym, refl, ap, ◌∙◌, subst, arith}
 use borrow.Rule.Slice.PartMut.{put_mid}
 use Rattle.lists.proofs.MemoryParts.{Put, put_part}
 use Rattle.parking.proofs.Holding.{AllHold, hold_push, hold_shuffled, length_held, entries_append, entries_few}
@@ -7,7 +7,7 @@ use Rattle.parking.proofs.Ranks.{rank_taken}
 use Rattle.parking.specs.Heaps.{rank_at, InOrder, Heaped}
 use Rattle.parking.specs.Places.{place_rank, entries_in, Gave}
 use Rattle.std.proofs.lemmas.List.Edits.{length-between}
-use Rattle.std.proofs.lemmas.List.{length-take-le, take_all, take-take, take_more_set, length-set, drop-drop, length-append, map-append, append_cancel_right}
+use Rattle.std.proofs.lemmas.List.{take_all, take-take, take_more_set, length-set, drop-drop, length-append, map-append, append_cancel_right}
 use Rattle.std.proofs.lemmas.List.Sorted.{IsPermutation-trans, IsPermutation-to_front, IsPermutation-sym, length_permutation}
 use Rattle.std.specs.List.Sorted.{IsPermutation}
 use Rattle.std.specs.List.{between}

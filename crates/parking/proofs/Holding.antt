@@ -1,5 +1,5 @@
 -- Places that all hold an entry, as they are shuffled, and as one is added or taken away.
-use Rattle.std.proofs.Common.{◌≡◌, ℕ, suc, ◌+◌, ◌-◌, ◌<◌, ◌≤◌, List, [], ◌∷◌, ◌++◌, map, length, get_or, take, drop, set, Some, None, Option, sym, refl, ap, ◌∙◌, subst, arith}
+use Rattle.std.proofs.Common.{◌≡◌, ℕ, ◌<◌, ◌≤◌, List, [], ◌∷◌, ◌++◌, map, length, Some, None, Option, sym, refl, ap, ◌∙◌, subst, arith}
 use Rattle.parking.proofs.Moves.{exchanged_alike}
 use Rattle.parking.proofs.Ranks.{map_exchanged}
 use Rattle.parking.specs.Places.{entries_in}

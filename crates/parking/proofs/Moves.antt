@@ -1,12 +1,12 @@
 -- An entry is moved to the end, and what lies before the end is shuffled.
-use Rattle.std.proofs.Common.{◌≡◌, ℕ, suc, ◌+◌, ◌-◌, ◌/◌, ◌<◌, ◌≤◌, List, [], ◌∷◌, ◌++◌, length, get_or, take, drop, sym, refl, ap, ◌∙◌, subst, arith}
+use Rattle.std.proofs.Common.{◌≡◌, ℕ, ◌+◌, ◌-◌, ◌/◌, ◌<◌, List, [], ◌∷◌, ◌++◌, length, get_or, take, drop, sym, refl, ap, ◌∙◌, subst, arith}
 use borrow.Rule.Slice.PartMut.{put_mid}
 use Rattle.lists.proofs.MemoryParts.{Put, put_part}
 use Rattle.parking.proofs.Ranks.{ranks_swapped, rank_taken}
-use Rattle.parking.specs.Heaps.{rank_at, InOrder, ButBelow, Heaped}
-use Rattle.std.proofs.lemmas.List.Edits.{Swapped, swapped_from_swap}
-use Rattle.std.proofs.lemmas.List.{take-append-drop, length-take-le, drop_more, drop_all, get_or_at, take_at, length-append}
-use Rattle.std.proofs.lemmas.List.Sorted.{IsPermutation-refl, IsPermutation-sym, IsPermutation-trans, IsPermutation-cons, IsPermutation-to_front, length_permutation}
+use Rattle.parking.specs.Heaps.{rank_at, ButBelow, Heaped}
+use Rattle.std.proofs.lemmas.List.Edits.{swapped_from_swap}
+use Rattle.std.proofs.lemmas.List.{take-append-drop, length-take-le, drop_more, drop_all}
+use Rattle.std.proofs.lemmas.List.Sorted.{IsPermutation-sym, IsPermutation-trans, IsPermutation-cons, IsPermutation-to_front, length_permutation}
 use Rattle.std.specs.List as holes
 use Rattle.std.specs.List.Sorted.{IsPermutation}
 use Rattle.std.specs.List.{swap}

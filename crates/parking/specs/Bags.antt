@@ -1,5 +1,5 @@
 -- The bag of parked pairs of index and output.
-use Rattle.std.specs.Prelude.{◌≡◌, ℕ, ◌+◌, ◌^◌, ◌<◌, ◌≤◌, Bool, cond, ◌&&◌, List, [], ◌∷◌, map, length, Some, None, Ok, Err, count_by, Option, Result, ◌==◌, nat_le, nat_lt}
+use Rattle.std.specs.Prelude.{◌≡◌, ℕ, ◌+◌, ◌^◌, ◌≤◌, Bool, cond, ◌&&◌, List, ◌∷◌, map, length, Some, None, Ok, Err, count_by, Option, Result, ◌==◌, nat_le, nat_lt}
 use Rattle.std.specs.List.Sorted.{IsPermutation}
 use Rattle.tasks.specs.Orders.{wrapper_flipped}
 use Rattle.tasks.specs.declared.order_wrapper.OrderWrapper.{OrderWrapper}

@@ -1,5 +1,5 @@
 -- What a make line asks for.
-use Rattle.std.specs.Prelude.{◌≡◌, ℕ, ◌^◌, ◌<◌, Bool, true, false, cond, List, Some, None, Option}
+use Rattle.std.specs.Prelude.{◌≡◌, ℕ, Bool, true, false, cond, List, Some, None, Option}
 use Rattle.recordings.specs.declared.make.Key.{Key}
 use Rattle.recordings.specs.declared.make.Key.TheVariants.{Name, First, Slots, Wakes, Parking}
 use Rattle.recordings.specs.declared.make.Keys.{Keys}

@@ -1,5 +1,5 @@
 -- What the words of a recording stand for.
-use Rattle.std.specs.Prelude.{◌≡◌, ℕ, ◌^◌, ◌<◌, Bool, cond, List, codes, Result}
+use Rattle.std.specs.Prelude.{ℕ, ◌^◌, ◌<◌, Bool, cond, List, codes, Result}
 use Rattle.recordings.specs.declared.call.Call.{Call}
 use Rattle.recordings.specs.declared.call.Call.TheVariants.{Push, PushBack, PushFront, Poll, Hand, Clone, Wake, WakeByRef, Drop, MayEnd, Len, Capacity}
 use Rattle.recordings.specs.declared.call.Task.{Task}

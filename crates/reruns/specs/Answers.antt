@@ -1,9 +1,8 @@
 -- The answers of the definitions, as a recording has them.
-use Rattle.std.specs.Prelude.{◌≡◌, ℕ, List, Some, None, Ok, Err, Option, Result}
+use Rattle.std.specs.Prelude.{◌≡◌, ℕ, Some, None, Ok, Err, Option, Result}
 use Rattle.recordings.specs.Inputs.{input_of}
 use Rattle.reruns.specs.declared.answer.Answer.{Answer}
 use Rattle.reruns.specs.declared.answer.Answer.TheVariants as answer
-use Rattle.recordings.specs.declared.call.Back.{Back}
 use Rattle.recordings.specs.declared.call.Back.TheVariants as back
 use Rattle.reruns.specs.declared.answer.Found.{Found}
 use Rattle.reruns.specs.declared.answer.Found.TheVariants as found

@@ -1,5 +1,5 @@
 -- What a kind of set keeps, it keeps over every run.
-use Rattle.std.proofs.Common.{ℕ, List, [], ◌∷◌, Some, None, Option}
+use Rattle.std.proofs.Common.{List, [], ◌∷◌, Some, None, Option}
 use Rattle.runs.specs.Calls.{Call, push, poll, hand, clone, wake, wake_by_ref, drop, may_end, ask, reached}
 use Rattle.runs.specs.Kinds.{Kind, step}
 use Rattle.runs.specs.Laws.{Keeps}

@@ -1,19 +1,16 @@
 -- Tickets over runs: what was inside and was accepted is what is inside then and was yielded.
-use Rattle.std.proofs.Common.{◌≡◌, ℕ, zero, suc, ◌+◌, ◌≤◌, Bool, true, false, cond, ◌&&◌, eqb, List, [], ◌∷◌, ◌++◌, length, is_ok, Some, None, count_by, Option, sym, refl, ap, ◌∙◌, subst, arith}
+use Rattle.std.proofs.Common.{◌≡◌, ℕ, ◌+◌, Bool, true, cond, eqb, List, [], ◌∷◌, length, is_ok, Some, None, count_by, Option, sym, refl, ap, ◌∙◌, arith}
 use Rattle.runs.proofs.KeptRuns.{kept_step, kept_run}
 use Rattle.runs.proofs.TokenRuns.{tokens_even, tokens_end, tokens_owed, tokens_welcome}
 use Rattle.runs.specs.Calls.{Call, push, poll, hand, clone, wake, wake_by_ref, drop, may_end, ask, Entry, entry, reached, log}
 use Rattle.runs.specs.Kinds.{Kind, step}
 use Rattle.runs.specs.Laws.{TokenLaws, TicketLaws}
-use Rattle.runs.specs.Promises.{Promises, SameTickets, Honest, unspent, among}
-use Rattle.runs.specs.Size.{size}
-use Rattle.runs.specs.Tallies.{accepts, yields, accepted, yielded, if_ok, output_in, same_ticket}
+use Rattle.runs.specs.Promises.{Promises}
+use Rattle.runs.specs.Tallies.{accepts, yields, accepted, yielded, same_ticket}
 use Rattle.runs.specs.Tokens.{answers, answers_lent, leaves, hand_fault, clone_fault, spend_fault, one_more, one_less}
 use Rattle.std.proofs.lemmas.List.Sums.{sum_by-append, sum_by-cons}
 use Rattle.std.proofs.lemmas.Bool.{and_from, eq-eqb}
 use Rattle.tasks.specs.declared.fault.Fault.{Fault}
-use Rattle.tasks.specs.declared.poll.Poll.TheVariants.{Ready}
-use Rattle.wakes.specs.declared.waker.Waker.{Waker}
 
 -- counting
 pub count_all : {X : Type 0} (xs : List X) → count_by (λ x. true) xs ≡ length xs

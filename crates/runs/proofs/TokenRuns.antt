@@ -1,16 +1,16 @@
 -- Tokens over runs: as many are out as were handed and not spent, and no unspent one is refused.
-use Rattle.std.proofs.Common.{◌≡◌, ℕ, zero, suc, ◌+◌, ◌-◌, ◌<◌, ◌≤◌, Bool, true, false, cond, not, ◌&&◌, ◌||◌, eqb, ◌⊎◌, List, [], ◌∷◌, ◌++◌, length, is_ok, Some, None, Ok, Err, Option, Result, sym, refl, ap, ◌∙◌, subst, inl, inr, ⊎_elim, arith}
-use Rattle.runs.specs.Calls.{Call, push, poll, hand, clone, wake, wake_by_ref, drop, may_end, ask, Entry, did, entry, reached, log}
+use Rattle.std.proofs.Common.{◌≡◌, ℕ, suc, ◌+◌, ◌-◌, ◌<◌, Bool, true, false, cond, ◌||◌, eqb, List, [], ◌∷◌, ◌++◌, length, is_ok, Some, None, Err, Option, sym, refl, ap, ◌∙◌, subst, ⊎_elim, arith}
+use Rattle.runs.specs.Calls.{Call, push, poll, hand, clone, wake, wake_by_ref, drop, may_end, ask, Entry, entry, reached, log}
 use Rattle.runs.specs.Kinds.{Kind, step}
 use Rattle.runs.specs.Laws.{TokenLaws}
 use Rattle.runs.specs.Promises.{among, without, without_all, unspent_after, unspent, Honest, AllAmong}
 use Rattle.runs.specs.Tallies.{hands, spends, handed, spent, brings, in_ok, if_ok, same_token}
-use Rattle.runs.specs.Tokens.{Tokened, some_out, unless, answers, answers_lent, leaves, below_most, hand_fault, token_fault, clone_fault, spend_fault, end_fault, one_more, one_less}
+use Rattle.runs.specs.Tokens.{Tokened, some_out, unless, answers, answers_lent, leaves, below_most, hand_fault, token_fault, clone_fault, spend_fault, one_more, one_less}
 use Rattle.std.proofs.lemmas.List.{length-append}
-use Rattle.std.proofs.lemmas.Bool.{cases_Bool, both_ways, eqb-true, eqb-false, eq-eqb, ne_eqb, not-true, not-false, not_from_false, or_cases, or_right, or_left, and_parts, and_from}
+use Rattle.std.proofs.lemmas.Bool.{both_ways, eqb-true, eqb-false, eq-eqb, ne_eqb, not-true, not-false, not_from_false, or_cases, or_right, or_left, and_parts}
 use Rattle.tasks.specs.Faults.{number_of, layer_of, place_of}
 use Rattle.tasks.specs.declared.fault.Fault.{Fault}
-use Rattle.tasks.specs.declared.fault.Fault.TheVariants.{NoSuchSlot, TooManyTokens, OtherName, NoTokenOut, TokensOut}
+use Rattle.tasks.specs.declared.fault.Fault.TheVariants.{NoSuchSlot, OtherName, NoTokenOut, TokensOut}
 use Rattle.wakes.specs.declared.waker.Waker.{Waker}
 
 -- a check that refuses nothing has passed

@@ -1,16 +1,15 @@
 -- The laws of wakers over runs.
-use Rattle.std.proofs.Common.{◌≡◌, ℕ, ◌+◌, ◌-◌, ◌<◌, Bool, true, false, cond, eqb, ◌↔◌, List, [], ◌∷◌, length, is_ok, Some, None, Ok, Err, count_by, Option, Result, sym, refl, ap, ◌∙◌, subst, arith}
+use Rattle.std.proofs.Common.{◌≡◌, ℕ, ◌+◌, ◌-◌, ◌<◌, true, eqb, ◌↔◌, List, is_ok, Some, None, Ok, count_by, Option, sym, refl, ap, ◌∙◌, subst, arith}
 use Rattle.runs.proofs.KeptRuns.{kept_run}
 use Rattle.runs.proofs.TicketRuns.{count_all}
 use Rattle.runs.proofs.TokenRuns.{Passes, passes, pass}
-use Rattle.runs.specs.Calls.{Call, poll, clone, wake, wake_by_ref, drop, ask, reached}
+use Rattle.runs.specs.Calls.{poll, clone, wake, drop, ask, reached}
 use Rattle.runs.specs.Kinds.{Kind, step}
 use Rattle.runs.specs.Laws.{TokenLaws, TicketLaws, WakeLaws}
 use Rattle.runs.specs.Tallies.{output_in}
 use Rattle.runs.specs.Tokens.{answers, answers_lent, leaves, below_most, clone_fault, spend_fault, one_more, one_less}
 use Rattle.runs.specs.Wakers.{WakerLaws}
 use Rattle.tasks.specs.declared.fault.Fault.{Fault}
-use Rattle.tasks.specs.declared.fault.Refused.{Refused}
 use Rattle.tasks.specs.declared.poll.Poll.TheVariants.{Ready}
 use Rattle.wakes.specs.declared.waker.Waker.{Waker}
 

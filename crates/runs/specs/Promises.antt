@@ -1,11 +1,11 @@
 -- What is promised of every run.
-use Rattle.std.specs.Prelude.{◌≡◌, ℕ, ◌+◌, Bool, true, false, cond, ◌||◌, eqb, ◌↔◌, List, [], ◌∷◌, ◌++◌, length, is_ok, Some, None, Ok, Err, count_by}
-use Rattle.runs.specs.Calls.{Call, push, poll, hand, clone, wake, wake_by_ref, drop, may_end, ask, Entry, entry, Step, reached, log}
+use Rattle.std.specs.Prelude.{◌≡◌, ℕ, ◌+◌, Bool, true, false, cond, ◌||◌, ◌↔◌, List, [], ◌∷◌, ◌++◌, length, is_ok, None, Err, count_by}
+use Rattle.runs.specs.Calls.{Call, poll, wake, wake_by_ref, drop, may_end, ask, Entry, entry, Step, reached, log}
 use Rattle.runs.specs.Size.{size}
 use Rattle.runs.specs.Tallies.{accepted, yielded, handed, spent, hands, spends, brings, same_token, same_ticket}
 use Rattle.tasks.specs.Faults.{number_of, layer_of, place_of}
 use Rattle.tasks.specs.declared.fault.Fault.{Fault}
-use Rattle.tasks.specs.declared.poll.Poll.TheVariants.{Ready, Pending}
+use Rattle.tasks.specs.declared.poll.Poll.TheVariants.{Ready}
 use Rattle.wakes.specs.declared.waker.Waker.{Waker}
 
 -- Two lists hold the same tickets, each as often.

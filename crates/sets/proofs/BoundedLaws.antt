@@ -1,5 +1,5 @@
 -- The bounded set has the laws that the promise over every run asks for.
-use Rattle.std.proofs.Common.{◌≡◌, ℕ, zero, suc, ◌+◌, ◌<◌, Bool, true, false, cond, not, eqb, ltb, List, [], ◌∷◌, map, length, get_or, set, Some, None, Ok, Err, count_by, Option, Result, sym, refl, ap, ◌∙◌, subst, arith}
+use Rattle.std.proofs.Common.{◌≡◌, ℕ, suc, ◌+◌, Bool, true, false, cond, eqb, ltb, List, [], ◌∷◌, map, length, get_or, set, Some, None, Ok, Err, count_by, Option, sym, refl, ap, ◌∙◌, subst, arith}
 use Rattle.lists.proofs.QueueFacts.{distinct_enqueued, distinct_rest, member_enqueued, count_one}
 use Rattle.lists.specs.Queues.{enqueued, first}
 use Rattle.lists.specs.Walks.{distinct}
@@ -8,17 +8,17 @@ use Rattle.runs.proofs.WakerRuns.{waker_laws}
 use Rattle.runs.specs.Calls.{reached}
 use Rattle.runs.specs.Laws.{TokenLaws, TicketLaws, WakeLaws}
 use Rattle.runs.specs.Promises.{Promises}
-use Rattle.runs.specs.Size.{size, distance_to_end}
+use Rattle.runs.specs.Size.{size}
 use Rattle.runs.specs.Tallies.{if_ok}
 use Rattle.runs.specs.Wakers.{WakerLaws}
 use Rattle.sets.proofs.FairPolls.{Fair, fair, weight, weigh, weigh_set, count_inside, length_held, none_empty, empty_none, ready_vacated, polling_keeps}
-use Rattle.sets.specs.Bounded.{Bounded, Question, how_many, how_many_can_be, made, kind, step, slots_of, elements, held_in, push_answer, capacity_of, queued, NeverAgain}
-use Rattle.sets.specs.Group.{Group, joined, polled, polling, registered, found_if, finishing, output_of, vacated, turn, turn_at, turn_from, dequeued, woken_if}
+use Rattle.sets.specs.Bounded.{Bounded, how_many, made, kind, step, slots_of, elements, held_in, push_answer, capacity_of, queued, NeverAgain}
+use Rattle.sets.specs.Group.{Group, polled, polling, registered, found_if, finishing, output_of, vacated, turn, turn_at, turn_from, dequeued, woken_if}
 use Rattle.sets.specs.declared.turn.Found.{Found}
 use Rattle.sets.specs.declared.turn.Turn.TheVariants.{Served}
 use Rattle.slots.proofs.Chained.{Inserts, insert_chained, fresh_chained, fresh_len, occupied_within}
 use Rattle.slots.proofs.HeldParts.{inserted_full, inserted_open}
-use Rattle.slots.specs.Table.{Table, len, full, inserted, task_at, occupied_at, vacant, Chained, fresh_slots}
+use Rattle.slots.specs.Table.{Table, len, full, inserted, task_at, vacant, Chained, fresh_slots}
 use Rattle.slots.specs.declared.slot.Slot.{Slot}
 use Rattle.slots.specs.declared.slot.Slot.TheVariants.{Occupied, NextFree}
 use Rattle.std.proofs.lemmas.List.{length-set, length-map, nil_from_length}
@@ -26,7 +26,6 @@ use Rattle.std.proofs.lemmas.List.Sums.{sum_by-cons}
 use Rattle.std.proofs.lemmas.Bool.{both_ways, lt-ltb, cond_both, cond-true, cond-false}
 use Rattle.tasks.specs.Acts.{Acts}
 use Rattle.tasks.specs.declared.fault.Fault.TheVariants.{NoVacantSlot}
-use Rattle.tasks.specs.declared.fault.Refused.{Refused}
 use Rattle.tasks.specs.declared.poll.Poll.{Poll}
 use Rattle.tasks.specs.declared.poll.Poll.TheVariants.{Ready, Pending}
 use Rattle.wakes.specs.Wakes.{Wakes}

@@ -1,21 +1,20 @@
 -- What a poll does to the tasks of a group: none is lost or doubled, and the one that is ready leaves.
-use Rattle.std.proofs.Common.{◌≡◌, ℕ, zero, suc, ◌+◌, ◌<◌, Bool, true, false, cond, not, eqb, List, [], ◌∷◌, map, length, get_or, set, is_some, Some, None, sum_by, count_by, Option, sym, refl, ap, ◌∙◌, subst, arith}
+use Rattle.std.proofs.Common.{◌≡◌, ℕ, zero, suc, ◌+◌, ◌<◌, Bool, true, false, cond, eqb, List, [], ◌∷◌, map, length, get_or, set, is_some, Some, None, sum_by, count_by, Option, sym, refl, ap, ◌∙◌, subst, arith}
 use Rattle.lists.specs.Queues.{first}
 use Rattle.sets.specs.Bounded.{held_in}
 use Rattle.sets.specs.Group.{Group, Outcome, turn, turn_at, turn_from, turn_answer, self_notice, dequeued, served, after_turn, polling, registered, found, found_if, polled, output_of, vacated, finishing}
 use Rattle.sets.specs.declared.turn.Found.{Found}
 use Rattle.sets.specs.declared.turn.Turn.{Turn}
 use Rattle.sets.specs.declared.turn.Turn.TheVariants.{Idle, Served, Gave}
-use Rattle.slots.proofs.Chained.{Removes, Replaces, remove_chained, replace_chained, occupied_within}
+use Rattle.slots.proofs.Chained.{remove_chained, replace_chained, occupied_within}
 use Rattle.slots.proofs.HeldParts.{removed_there}
-use Rattle.slots.specs.Table.{Table, task_in, task_at, occupied, occupied_at, vacant, len, removed, Chained}
+use Rattle.slots.specs.Table.{Table, task_in, task_at, occupied, occupied_at, len, removed, Chained}
 use Rattle.slots.specs.declared.slot.Slot.{Slot}
 use Rattle.slots.specs.declared.slot.Slot.TheVariants.{Occupied, NextFree}
-use Rattle.std.proofs.lemmas.List.{length-set, set-set, get_or-set_same, length-map}
+use Rattle.std.proofs.lemmas.List.{length-set, set-set, get_or-set_same}
 use Rattle.std.proofs.lemmas.Option.{slice_get-get_or}
 use Rattle.std.proofs.lemmas.List.Sums.{sum_by-cons, sum_by-set}
 use Rattle.std.proofs.lemmas.Bool.{eqb-true, eq-eqb}
-use Rattle.std.specs.List.{slice_get}
 use Rattle.tasks.specs.Acts.{Acts}
 use Rattle.tasks.specs.declared.poll.Poll.{Poll}
 use Rattle.tasks.specs.declared.poll.Poll.TheVariants.{Ready, Pending}

@@ -1,5 +1,5 @@
 -- The bounded unordered set by its rules.
-use Rattle.std.specs.Prelude.{◌≡◌, ℕ, min, cond, List, [], ◌∷◌, length, drop, Some, None, Ok, Err, count_by, Option, Result, nat_eq, nat_lt}
+use Rattle.std.specs.Prelude.{◌≡◌, ℕ, min, cond, List, [], ◌∷◌, length, drop, Some, None, Ok, Err, count_by, Result, nat_eq, nat_lt}
 use Rattle.lists.specs.Queues.{first}
 use Rattle.runs.specs.Calls.{Call, poll, Step, reached}
 use Rattle.runs.specs.Kinds.{Kind}
@@ -16,7 +16,6 @@ use Rattle.tasks.specs.Acts.{Acts}
 use Rattle.tasks.specs.declared.fault.Fault.TheVariants.{NoVacantSlot}
 use Rattle.tasks.specs.declared.fault.Refused.{Refused}
 use Rattle.tasks.specs.declared.poll.Poll.TheVariants.{Ready}
-use Rattle.tasks.specs.declared.poll.Polled.{Polled}
 use Rattle.wakes.specs.Wakes as wakes
 use Rattle.wakes.specs.declared.wake_record.WakeRecord.{WakeRecord}
 

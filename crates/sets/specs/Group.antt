@@ -1,7 +1,6 @@
 -- A group of tasks: a slot table, the slots that wait to be polled, and the registration of the parent.
-use Rattle.std.specs.Prelude.{ℕ, zero, suc, ◌+◌, Bool, cond, List, [], Some, None, Option, ◌==◌, slice_set}
+use Rattle.std.specs.Prelude.{ℕ, zero, suc, ◌+◌, Bool, cond, List, Some, None, Option, ◌==◌, slice_set}
 use Rattle.lists.specs.Queues.{first, enqueued}
-use Rattle.lists.specs.Walks.{member}
 use Rattle.sets.specs.declared.turn.Found.{Found}
 use Rattle.sets.specs.declared.turn.Turn.{Turn}
 use Rattle.sets.specs.declared.turn.Turn.TheVariants.{Idle, Served, Gave}

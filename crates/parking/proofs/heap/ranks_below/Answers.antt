@@ -1,4 +1,4 @@
-use Rattle.std.proofs.Common.{◌≡◌, ltb, ap, ◌∙◌}
+use Rattle.std.proofs.Common.{ltb, ap, ◌∙◌}
 use Rattle.parking.specs.Heaps.{rank_at}
 use Rattle.parking.proofs.Ranks.{rank_read}
 use Rattle.parking.proofs.heap.ranks_below.Goals as goal

@@ -1,4 +1,4 @@
-use Rattle.std.proofs.Common.{◌≡◌, sym, ap, ◌∙◌}
+use Rattle.std.proofs.Common.{sym, ap, ◌∙◌}
 use Rattle.parking.proofs.Ranks.{rank_read}
 use Rattle.parking.proofs.pairs.index_at.Goals as goal
 use Rattle.parking.specs.Places.{place_rank, index_of}

@@ -1,4 +1,4 @@
-use Rattle.std.proofs.Common.{◌≡◌, ◌+◌, ◌-◌, ◌/◌, ◌<◌, length, set, Some, sym, subst, arith}
+use Rattle.std.proofs.Common.{◌+◌, ◌-◌, ◌/◌, length, Some, arith}
 use Rattle.parking.proofs.Ranks.{rank_set_other}
 use Rattle.parking.proofs.rank_heap.put_last.Goals as goal
 use Rattle.parking.specs.Places.{place_rank}

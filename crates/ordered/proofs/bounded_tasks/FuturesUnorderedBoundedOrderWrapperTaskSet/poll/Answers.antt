@@ -1,4 +1,4 @@
-use Rattle.std.proofs.Common.{◌≡◌, ◌≤◌, sym, ap, subst, arith}
+use Rattle.std.proofs.Common.{ap, arith}
 use Rattle.ordered.proofs.bounded_tasks.FuturesUnorderedBoundedOrderWrapperTaskSet.poll.Goals as goal
 use Rattle.sets.proofs.Polling.{polled_few}
 use Rattle.sets.specs.BoundedSet.{set_of}

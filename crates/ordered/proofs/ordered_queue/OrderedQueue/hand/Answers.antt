@@ -1,10 +1,10 @@
-use Rattle.std.proofs.Common.{◌≡◌, ap, ◌∙◌}
+use Rattle.std.proofs.Common.{ap, ◌∙◌}
 use Rattle.ordered.proofs.Queues.{leaves_below, call_sound}
 use Rattle.ordered.proofs.ordered_queue.OrderedQueue.hand.Goals as goal
 use Rattle.ordered.specs.Ordered.{with_below}
 use Rattle.ordered.specs.Queue.{line_of}
-use Rattle.runs.specs.Calls.{hand as Hand, clone as CloneCall, wake as Wake, wake_by_ref as WakeByRef, drop as DropCall}
-use Rattle.runs.specs.Tokens.{hand_fault, clone_fault, spend_fault, one_more, one_less}
+use Rattle.runs.specs.Calls.{hand as Hand}
+use Rattle.runs.specs.Tokens.{hand_fault, one_more}
 
 pub returns : goal.returns
 returns g c =

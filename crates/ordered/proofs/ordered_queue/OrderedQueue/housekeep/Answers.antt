@@ -1,7 +1,7 @@
-use Rattle.std.proofs.Common.{◌≡◌, false, sym, refl, ap, ◌∙◌, subst}
+use Rattle.std.proofs.Common.{refl, ap, ◌∙◌}
 use Rattle.ordered.proofs.Queues.{housekept_is, order_same}
 use Rattle.ordered.proofs.ordered_queue.OrderedQueue.housekeep.Goals as goal
-use Rattle.ordered.specs.Ordered.{Ordered, ascending}
+use Rattle.ordered.specs.Ordered.{ascending}
 use Rattle.ordered.specs.Queue.{line_of}
 use Rattle.tasks.specs.Orders.{index_flipped, top_bit}
 

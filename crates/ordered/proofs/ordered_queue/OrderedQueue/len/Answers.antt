@@ -1,7 +1,6 @@
-use Rattle.std.proofs.Common.{◌≡◌, ◌+◌, ◌≤◌, sym, ap, ◌∙◌, arith}
+use Rattle.std.proofs.Common.{arith}
 use Rattle.ordered.proofs.Queues.{held_few, length_ascending}
 use Rattle.ordered.proofs.ordered_queue.OrderedQueue.len.Goals as goal
-use Rattle.ordered.specs.Ordered.{held}
 use Rattle.ordered.specs.Queue.{line_of}
 
 pub returns : goal.returns

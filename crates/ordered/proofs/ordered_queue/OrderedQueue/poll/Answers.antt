@@ -1,8 +1,8 @@
-use Rattle.std.proofs.Common.{◌≡◌, count_by, sym, refl, ap, ◌∙◌, subst, arith}
+use Rattle.std.proofs.Common.{count_by, sym, refl, ap, ◌∙◌, subst}
 use Rattle.ordered.proofs.Parkings.{count_ascending}
 use Rattle.ordered.proofs.Queues.{order_same, none_bears, taken_first, poll_sound, yields_parked, polls_tasks}
 use Rattle.ordered.proofs.ordered_queue.OrderedQueue.poll.Goals as goal
-use Rattle.ordered.specs.Ordered.{Outcome, ascending, bearing_index}
+use Rattle.ordered.specs.Ordered.{Outcome, ascending}
 use Rattle.ordered.specs.Queue.{line_of, Sound}
 use Rattle.parking.specs.Bags.{bears_index}
 use Rattle.tasks.specs.Orders.{index_raised}

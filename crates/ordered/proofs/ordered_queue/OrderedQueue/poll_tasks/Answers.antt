@@ -1,9 +1,9 @@
-use Rattle.std.proofs.Common.{◌≡◌, Some, None, sym, refl, ap, ◌∙◌, arith}
+use Rattle.std.proofs.Common.{Some, None, sym, refl, ◌∙◌}
 use Rattle.ordered.proofs.Parkings.{none_at}
-use Rattle.ordered.proofs.Rounding.{SoFar, begins, finishes, goes_on}
+use Rattle.ordered.proofs.Rounding.{begins, finishes, goes_on}
 use Rattle.ordered.proofs.ordered_queue.OrderedQueue.poll_tasks.Goals as goal
 use Rattle.ordered.specs.Queue.{line_of}
-use Rattle.ordered.specs.declared.round.Round.TheVariants.{Pending as Waits, Empty, Yielded, Parked}
+use Rattle.ordered.specs.declared.round.Round.TheVariants.{Pending as Waits, Empty, Yielded}
 use Rattle.tasks.specs.declared.poll.Poll.TheVariants.{Ready, Pending}
 
 pub loop-output-init : goal.loop-output-init

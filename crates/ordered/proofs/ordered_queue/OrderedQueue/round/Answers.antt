@@ -1,4 +1,4 @@
-use Rattle.std.proofs.Common.{◌≡◌, sym, refl, ap, ◌∙◌}
+use Rattle.std.proofs.Common.{sym, refl, ap, ◌∙◌}
 use Rattle.ordered.proofs.Queues.{fits_round}
 use Rattle.ordered.proofs.ordered_queue.OrderedQueue.round.Goals as goal
 use Rattle.ordered.specs.Queue.{line_of}

@@ -1,8 +1,8 @@
-use Rattle.std.proofs.Common.{Some, sym, refl, ap, ◌∙◌, subst, arith}
+use Rattle.std.proofs.Common.{Some, refl, arith}
 use Rattle.parking.proofs.PairsHeld.{not_there, took, rank_there}
 use Rattle.parking.proofs.rank_heap.RankHeap+OrderWrapper+O.take.Goals as goal
-use Rattle.parking.specs.Held.{held, used}
-use Rattle.parking.specs.Places.{place_rank, index_of, entries_in, Gave}
+use Rattle.parking.specs.Held.{used}
+use Rattle.parking.specs.Places.{entries_in}
 
 pub returns-in-None : goal.returns-in-None
 returns-in-None g c =

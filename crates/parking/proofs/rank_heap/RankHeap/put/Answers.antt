@@ -1,6 +1,6 @@
-use Rattle.std.proofs.Common.{◌≡◌, ◌+◌, ◌-◌, ◌<◌, ◌≤◌, List, ◌∷◌, length, drop, Some, Option, sym, refl, ap, subst, arith}
+use Rattle.std.proofs.Common.{◌≡◌, ◌+◌, ◌-◌, ◌≤◌, List, ◌∷◌, length, Option, sym, ap, subst, arith}
 use borrow.Rule.Slice.PartMut.{put_mid}
-use Rattle.parking.proofs.HeapParts.{PutIn, put_in, order_before}
+use Rattle.parking.proofs.HeapParts.{put_in, order_before}
 use Rattle.parking.proofs.Holding.{hold_all, length_held}
 use Rattle.parking.proofs.rank_heap.RankHeap.put.Goals as goal
 use Rattle.parking.specs.Heaps.{Heaped}

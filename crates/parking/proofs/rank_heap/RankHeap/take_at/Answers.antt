@@ -1,13 +1,12 @@
-use Rattle.std.proofs.Common.{◌≡◌, ◌+◌, ◌-◌, ◌<◌, ◌≤◌, List, ◌∷◌, length, take, drop, Option, sym, refl, ap, ◌∙◌, subst, arith}
+use Rattle.std.proofs.Common.{◌≡◌, ◌-◌, ◌≤◌, List, length, take, Option, sym, ap, subst, arith}
 use borrow.Rule.Slice.PartMut.{put_mid}
-use Rattle.parking.proofs.HeapParts.{TakenOut, taken_out}
+use Rattle.parking.proofs.HeapParts.{taken_out}
 use Rattle.parking.proofs.Holding.{hold_all, length_held}
 use Rattle.parking.proofs.rank_heap.RankHeap.take_at.Goals as goal
 use Rattle.parking.specs.Heaps.{Heaped}
 use Rattle.parking.specs.Held.{Held, used}
 use Rattle.parking.specs.Places.{place_rank, entries_in, Gave}
 use Rattle.std.proofs.lemmas.List.Edits.{length-between}
-use Rattle.std.specs.List.Sorted.{IsPermutation}
 use Rattle.std.specs.List.{between}
 
 pub move_to_end-taken-requires : goal.move_to_end-taken-requires

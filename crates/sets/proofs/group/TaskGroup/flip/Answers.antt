@@ -1,4 +1,4 @@
-use Rattle.std.proofs.Common.{◌≡◌, length, ap, ◌∙◌}
+use Rattle.std.proofs.Common.{length, ap, ◌∙◌}
 use Rattle.sets.proofs.group.TaskGroup.flip.Goals as goal
 use Rattle.sets.specs.Ground.{Ground}
 use Rattle.slots.specs.Flips.{slot_flipped}

@@ -1,4 +1,4 @@
-use Rattle.std.proofs.Common.{◌≡◌, false, get_or, sym, ap, ◌∙◌, subst}
+use Rattle.std.proofs.Common.{false, get_or, sym, ap, ◌∙◌, subst}
 use Rattle.lists.proofs.MemoryParts.{whole_from_parts, given}
 use Rattle.sets.specs.Ground.{GivenBack}
 use Rattle.wakes.specs.Queue.{flags}
