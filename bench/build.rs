@@ -7,7 +7,7 @@ fn main() {
     for (variable, what) in [
         (
             "BENCH_OURS",
-            "libbench.a, which `rt staticlib bench` writes",
+            "libbench.a, which `rt lib` writes",
         ),
         ("BENCH_KIT", "the C archive of the Rattle kit"),
     ] {

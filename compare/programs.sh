@@ -1,22 +1,25 @@
 # Sourced by the scripts beside it, at the root of the repository: builds the programs that they use.
 
-# The program target/bin/replay, where it is not there or older than the sources.
+# Our program, which rt leaves there.
+replay=crates/replay/out/replay
+
+# Builds it, where it is not there or older than the sources.
 build_replay() {
     local log=target/replay.log
-    if [ -x target/bin/replay ] && [ -z "$(find crates -name '*.rt' -newer target/bin/replay -print -quit)" ]; then
+    if [ -x "$replay" ] && [ -z "$(find crates -name '*.rt' -newer "$replay" -print -quit)" ]; then
         return 0
     fi
     if ! command -v rt > /dev/null; then
-        echo "rt is not on the PATH: it is the Rattle toolchain's command (kit rattle-kit-8b); install the kit and put its bin folder on the PATH" >&2
+        echo "rt is not on the PATH: it is the Rattle toolchain's command (kit rattle-kit-13f); install the kit and put its bin folder on the PATH" >&2
         return 1
     fi
     mkdir -p target
-    if ! rt check replay > "$log" 2>&1; then
+    if ! (cd crates/replay && rt run < /dev/null) > "$log" 2>&1; then
         cat "$log" >&2
         return 1
     fi
-    if [ ! -x target/bin/replay ]; then
-        echo "rt check replay left no program target/bin/replay" >&2
+    if [ ! -x "$replay" ]; then
+        echo "rt run left no program $replay" >&2
         return 1
     fi
 }

@@ -1,4 +1,4 @@
-//! Our side: the workloads of `crates/bench`, which `rt staticlib bench` compiles. Each makes its set in memory of
+//! Our side: the workloads of `crates/bench`, which `rt lib` compiles. Each makes its set in memory of
 //! its own and frees it.
 
 mod c {
