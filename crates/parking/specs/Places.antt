@@ -26,6 +26,6 @@ abbrev pub index_of : {O : Type 0} → OrderWrapper O → ℕ
 index_of w = w.index
 
 -- The place of the first pair that has an index, among the first n; nothing where none has it.
-abbrev pub Found_at : {O : Type 0} → List (Option (OrderWrapper O)) → ℕ → ℕ → Option ℕ → Type 0
-Found_at places n index None = (k : ℕ) → k < n → rank_at (place_rank index_of) places k ≢ suc index
-Found_at places n index (Some at) = (at < n) × (rank_at (place_rank index_of) places at ≡ suc index)
+abbrev pub FoundAt : {O : Type 0} → List (Option (OrderWrapper O)) → ℕ → ℕ → Option ℕ → Type 0
+FoundAt places n index None = (k : ℕ) → k < n → rank_at (place_rank index_of) places k ≢ suc index
+FoundAt places n index (Some at) = (at < n) × (rank_at (place_rank index_of) places at ≡ suc index)

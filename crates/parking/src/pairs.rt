@@ -1,6 +1,6 @@
 ghost use Rattle.std.specs.Prelude.{◌≡◌, ℕ, suc, ◌<◌, ◌≤◌, true, false, map, length, ◌≢◌};
 ghost use Rattle.parking.specs.Heaps.{InOrder, rank_at, Heaped};
-ghost use Rattle.parking.specs.Places.{place_rank, index_of, Found_at};
+ghost use Rattle.parking.specs.Places.{place_rank, index_of, FoundAt};
 ghost use Rattle.std.specs.List.Sorted.{IsPermutation};
 ghost use Rattle.tasks.specs.Orders.{option_flipped, wrapper_flipped};
 
@@ -39,7 +39,7 @@ pub fn find_in<O: Copy>(
     index: u64,
 ) -> Option<usize>
     requires { (count ≤ length places.now) × (InOrder (rank_at (place_rank index_of) places.now) count) }
-    ensures { Found_at places.now count index result }
+    ensures { FoundAt places.now count index result }
 {
     if count == 0 {
         return None;

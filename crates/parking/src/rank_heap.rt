@@ -2,7 +2,7 @@ ghost use Rattle.std.specs.Prelude.{◌≡◌, ℕ, suc, ◌+◌, ◌-◌, ◌<�
 ghost use Rattle.parking.specs.Bags.{Taken};
 ghost use Rattle.parking.specs.Heaps.{InOrder, rank_at, Heaped};
 ghost use Rattle.parking.specs.Held.{held, used, with_bag, Sound};
-ghost use Rattle.parking.specs.Places.{place_rank, index_of, Gave, Found_at};
+ghost use Rattle.parking.specs.Places.{place_rank, index_of, Gave, FoundAt};
 ghost use Rattle.std.specs.List.Sorted.{IsPermutation};
 ghost use Rattle.tasks.specs.Orders.{wrapper_flipped};
 
@@ -115,7 +115,7 @@ impl<'a, O: Copy> RankHeap<'a, OrderWrapper<O>> {
     // The place of the pair with that index.
     fn find(&self, index: u64) -> Option<usize>
         requires { Sound index_of self.now }
-        ensures { Found_at self.now.memory.now self.now.count index result }
+        ensures { FoundAt self.now.memory.now self.now.count index result }
     {
         find_in(self.memory, self.count, index)
     }

@@ -1,6 +1,6 @@
 ghost use Rattle.std.specs.Prelude.{◌≡◌, Err};
 ghost use Rattle.reruns.specs.Recorded.{Answering, Leaving, GivesBack};
-ghost use Rattle.recordings.specs.declared.reason.Reason.TheVariants.{NoSet as NoSet};
+ghost use Rattle.recordings.specs.declared.reason.Reason.TheVariants.{NoSet as NoSetReason};
 
 use crate::answer::Answer;
 use recordings::call::Call;
@@ -25,7 +25,7 @@ pub trait Recorded {
 pub struct NoSet;
 
 impl Recorded for NoSet {
-    ghost answers = { λ _ _ _. Err NoSet };
+    ghost answers = { λ _ _ _. Err NoSetReason };
 
     ghost leaves = { λ _ _ _ _. Unit {0} };
 
