@@ -1,6 +1,6 @@
 -- A fault's number, layer and place, and the fault inside it, for each case.
 -- Layer 1 is the slots, 2 the wakes, 3 the parking, 4 the groups.
-use Rattle.std.specs.Prelude.{ℕ, Some, None, Option}
+use Rattle.std.specs.Prelude.{ℕ, List, ◌++◌, Some, None, Option, codes, decimal}
 use Rattle.tasks.specs.declared.fault.Fault.{Fault}
 use Rattle.tasks.specs.declared.fault.Fault.TheVariants.{NoVacantSlot, ParkingFull, NoSuchSlot, TooManyTokens, OtherName, NoTokenOut, TokensOut, NoNextGroup}
 
@@ -44,3 +44,7 @@ inside_of (OtherName name) = None
 inside_of NoTokenOut = None
 inside_of (TokensOut count) = None
 inside_of (NoNextGroup group capacity) = Some (NoVacantSlot capacity)
+
+-- A fault as text.
+abbrev pub shown : Fault → List ℕ
+shown f = codes "fault " ++ (decimal (number_of f) ++ (codes ", layer " ++ (decimal (layer_of f) ++ (codes ", place " ++ decimal (place_of f)))))

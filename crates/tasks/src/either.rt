@@ -50,17 +50,11 @@ impl<F: Future, G: Future> Future for Either<F, G> {
         match self {
             Either::Left(f) => {
                 let (woken, poll) = f.poll(post);
-                match poll {
-                    Poll::Ready(x) => (woken, Poll::Ready(Either::Left(x))),
-                    Poll::Pending => (woken, Poll::Pending),
-                }
+                (woken, poll.map(|x| Either::Left(x)))
             }
             Either::Right(g) => {
                 let (woken, poll) = g.poll(post);
-                match poll {
-                    Poll::Ready(x) => (woken, Poll::Ready(Either::Right(x))),
-                    Poll::Pending => (woken, Poll::Pending),
-                }
+                (woken, poll.map(|x| Either::Right(x)))
             }
         }
     }

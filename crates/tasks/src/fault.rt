@@ -1,5 +1,8 @@
-ghost use Rattle.std.specs.Prelude.{◌≡◌};
-ghost use Rattle.tasks.specs.Faults.{number_of, layer_of, place_of, inside_of};
+ghost use Rattle.std.specs.Prelude.{◌≡◌, Some};
+ghost use Rattle.tasks.specs.Faults.{number_of, layer_of, place_of, inside_of, shown};
+ghost use Rattle.tasks.specs.Mapped.{InputMapped};
+
+use std::fmt;
 
 // Why a call was refused.
 #[derive(Clone, Copy, PartialEq, Debug)]
@@ -85,9 +88,34 @@ impl Fault {
     }
 }
 
+impl fmt::Display for Fault {
+    ghost output = { λ f. Some (shown f) };
+
+    fn fmt<W: fmt::Write>(&self, f: &mut fmt::Formatter<W>) -> fmt::Result {
+        let number = self.number();
+        let layer = self.layer();
+        let place = self.place();
+        write!(f, "fault {number}, layer {layer}, place {place}")
+    }
+}
+
 // A refusal: the fault, and the very input that the call was given.
 #[derive(Clone, Copy, PartialEq, Debug)]
 pub struct Refused<T> {
     pub fault: Fault,
     pub input: T,
+}
+
+impl<T> Refused<T> {
+    // The same refusal of what the function makes of the input.
+    pub fn map<U, F: FnOnce(T) -> U>(self, f: F) -> Refused<U>
+        requires { F.pre f self.input }
+        ensures { InputMapped (F.post f) self result }
+    {
+        let Refused { fault, input } = self;
+        Refused {
+            fault,
+            input: f(input),
+        }
+    }
 }

@@ -27,10 +27,7 @@ impl<T: Flip> Flip for Option<T> {
     ghost flipped = { option_flipped T.Flip.flipped };
 
     fn flipped(self) -> Option<T> {
-        match self {
-            Some(value) => Some(value.flipped()),
-            None => None,
-        }
+        self.map(T::flipped)
     }
 }
 

@@ -44,9 +44,6 @@ impl<F: Future> Future for OrderWrapper<F> {
     fn poll(&mut self, post: &[u64]) -> (bool, Poll<OrderWrapper<F::Output>>) {
         let index = self.index;
         let (woken, poll) = self.data.poll(post);
-        match poll {
-            Poll::Ready(data) => (woken, Poll::Ready(OrderWrapper { data, index })),
-            Poll::Pending => (woken, Poll::Pending),
-        }
+        (woken, poll.map(|data| OrderWrapper { data, index }))
     }
 }
