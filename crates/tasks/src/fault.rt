@@ -76,14 +76,8 @@ impl Fault {
         ensures { result ≡ inside_of self }
     {
         match self {
-            Fault::NoVacantSlot { .. } => None,
-            Fault::ParkingFull { .. } => None,
-            Fault::NoSuchSlot { .. } => None,
-            Fault::TooManyTokens { .. } => None,
-            Fault::OtherName { .. } => None,
-            Fault::NoTokenOut => None,
-            Fault::TokensOut { .. } => None,
             Fault::NoNextGroup { capacity, .. } => Some(Fault::NoVacantSlot { capacity }),
+            _ => None,
         }
     }
 }
@@ -112,10 +106,9 @@ impl<T> Refused<T> {
         requires { F.pre f self.input }
         ensures { InputMapped (F.post f) self result }
     {
-        let Refused { fault, input } = self;
         Refused {
-            fault,
-            input: f(input),
+            fault: self.fault,
+            input: f(self.input),
         }
     }
 }

@@ -35,8 +35,7 @@ impl<T: Flip> Flip for Option<T> {
 pub fn flip_each<T: Flip + Copy>(values: &mut [T])
     ensures { values.new ≡ map T.Flip.flipped values.old }
 {
-    let n = values.len();
-    for i in 0..n {
-        values[i] = values[i].flipped();
+    for value in values.iter_mut() {
+        *value = value.flipped();
     }
 }

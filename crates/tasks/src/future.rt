@@ -12,6 +12,7 @@ pub trait Future: Ticketed {
     // what a poll does
     ghost acts: { Acts Self Self.Output };
 
+    // The pair is the interface's: whether the poll woke the task itself, and the answer, which is there either way.
     fn poll(&mut self, post: &[u64]) -> (bool, Poll<Self::Output>)
         ensures pair { result ≡ (acts.wakes self.old post.now, acts.answers self.old post.now) }
         ensures left { self.new ≡ acts.after self.old post.now };

@@ -15,7 +15,7 @@ pub struct OrderWrapper<T> {
 }
 
 // The top bit of an index.
-pub const MSB: u64 = 9223372036854775808;
+pub const MSB: u64 = 1 << 63;
 
 // An index with its top bit flipped.
 pub fn flip(index: u64) -> u64

@@ -13,6 +13,7 @@ pub trait PollFn<T> {
     // what a poll does
     ghost acts: { Acts T Self.Answer };
 
+    // The pair is that of Future and Stream.
     fn poll(task: &mut T, post: &[u64]) -> (bool, Poll<Self::Answer>)
         ensures pair { result ≡ (acts.wakes task.old post.now, acts.answers task.old post.now) }
         ensures left { task.new ≡ acts.after task.old post.now };

@@ -6,6 +6,5 @@ pub fn word_at(post: &[u64], place: u64) -> u64
     ensures word { result ≡ word_at post.now place }
     ensures there { 0 < result → place < length post.now }
 {
-    let at = place as usize;
-    if at < post.len() { post[at] } else { 0 }
+    post.get(place as usize).copied().unwrap_or(0)
 }

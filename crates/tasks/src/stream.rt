@@ -14,6 +14,7 @@ pub trait Stream: Ticketed {
     // what a poll does: it answers an item, the end, or Pending
     ghost acts: { Acts Self (Option Self.Item) };
 
+    // The pair is the interface's: whether the poll woke the task itself, and the answer, which is there either way.
     fn poll_next(&mut self, post: &[u64]) -> (bool, Poll<Option<Self::Item>>)
         ensures pair { result ≡ (acts.wakes self.old post.now, acts.answers self.old post.now) }
         ensures left { self.new ≡ acts.after self.old post.now };
