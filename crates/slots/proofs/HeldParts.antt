@@ -2,14 +2,16 @@
 use Rattle.std.proofs.Common.{◌≡◌, ℕ, ◌+◌, ◌-◌, ◌<◌, ◌≤◌, true, false, cond, List, map, length, take, drop, set, is_some, Some, None, Option, sym, refl, ap, ◌∙◌, subst, ⊎_elim, arith}
 use borrow.Rule.Slice.PartMut.{put_mid}
 use Rattle.lists.proofs.MemoryParts.{Put, put_part}
-use Rattle.slots.proofs.Chained.{Inserts, Removes, Replaces, insert_chained, full_head, remove_chained, replace_chained, flipped_chained, flipped_len}
+use Rattle.slots.proofs.Chained.{Inserts, Removes, Replaces, insert_chained, full_head, remove_chained, replace_chained, flipped_chained, flipped_len, fresh_chained, fresh_len}
 use Rattle.slots.specs.Flips.{slot_flipped, table_flipped}
 use Rattle.slots.specs.Held.{Held, with_table}
 use Rattle.slots.specs.Polls.{slots_after, polled_at}
-use Rattle.slots.specs.Table.{Table, len, full, inserted, removed, occupied_at, task_at, next_link, Chained}
+use Rattle.slots.specs.Table.{Table, fresh_slots, len, full, inserted, removed, occupied_at, task_at, next_link, Chained}
 use Rattle.slots.specs.declared.slot.Slot.{Slot}
+use Rattle.slots.specs.declared.slot_map.PinSlotMap.{PinSlotMap}
 use Rattle.slots.specs.declared.slot.Slot.TheVariants.{Occupied, NextFree}
 use Rattle.std.proofs.lemmas.List.Edits.{length-between}
+use Rattle.std.proofs.lemmas.List.FromFn.{length-map-range_with_len}
 use Rattle.std.proofs.lemmas.List.{length-set, length-map}
 use Rattle.std.proofs.lemmas.Bool.{cases_Bool}
 use Rattle.std.specs.List.{slice_get, between}
@@ -21,6 +23,10 @@ module _ {F : Type 0} where
 
   abbrev pub SoundIn : List (Slot F) → ℕ → ℕ → ℕ → ℕ → Type 0
   SoundIn xs a e head filled = (a ≤ e) × (e ≤ length xs) × Chained (between a e xs) head × (filled ≡ len (between a e xs))
+
+  -- what a slot map keeps
+  pub kept : (m : PinSlotMap F) → SoundIn m.slots.now m.part.start m.part.end m.free_head m.filled
+  kept m = (m.part.ordered, m.within, m.free_chained, m.counted)
 
   -- the map after its slots became ys, with another head and count
   pub record Changed (xs ys zs : List (Slot F)) (a e head filled : ℕ) : Type 0 where
@@ -46,6 +52,16 @@ module _ {F : Type 0} where
           counted ∙ ap len (sym put.part),
         );
       }
+
+  -- a fresh table
+  pub fresh_part : (xs ys : List (Slot F)) (a e : ℕ) → a ≤ e → e ≤ length xs → ys ≡ fresh_slots (length (between a e xs)) → Changed xs ys (put_mid a (e - a) xs ys) a e 0 0
+  fresh_part xs ys a e ae within to =
+      let long : length (between a e xs) ≡ e - a = length-between xs a e within in
+      let is : ys ≡ fresh_slots (e - a) = to ∙ ap (λ n. fresh_slots n) long in
+      change_part xs ys a e 0 0 ae within
+      (ap length is ∙ length-map-range_with_len (λ i. NextFree (i + 1)) 0 (e - a) ∙ sym long)
+      (subst (λ ss. Chained ss 0) (sym is) (fresh_chained F (e - a)))
+      (sym (fresh_len F (e - a)) ∙ ap len (sym is))
 
 -- an insert and a removal, where they do something and where they do nothing
 module _ {F : Type 0} (t : Table F) where

@@ -14,21 +14,8 @@ use tasks::poll_fn::PollFn;
 pub fn fresh_in<F: Copy>(slots: &mut [Slot<F>])
     ensures { slots.new ≡ fresh_slots (length slots.old) }
 {
-    let n = slots.len();
-    for i in 0..n {
-        slots[i] = Slot::NextFree(i + 1);
-    }
-}
-
-// The slot of that number.
-pub fn get_slot<F: Copy>(slots: &[Slot<F>], key: usize) -> Option<Slot<F>>
-    ensures slot { result ≡ slice_get slots.now key }
-    ensures within { is_some result ≡ true → key < length slots.now }
-{
-    if key < slots.len() {
-        Some(slots[key])
-    } else {
-        None
+    for (i, slot) in slots.iter_mut().enumerate() {
+        *slot = Slot::NextFree(i + 1);
     }
 }
 
@@ -45,14 +32,12 @@ pub fn insert_in<F: Copy>(slots: &mut [Slot<F>], key: usize, task: F) -> usize
 
 // The number that a vacant slot holds.
 fn next_in<F: Copy>(slots: &[Slot<F>], key: usize) -> usize
+    requires { key < length slots.now }
     ensures { result ≡ next_link (slice_get slots.now key) }
 {
-    match get_slot(slots, key) {
-        Some(slot) => match slot {
-            Slot::NextFree(next) => next,
-            Slot::Occupied(_) => 0,
-        },
-        None => 0,
+    match slots[key] {
+        Slot::NextFree(next) => next,
+        Slot::Occupied(_) => 0,
     }
 }
 
@@ -61,13 +46,11 @@ pub fn remove_in<F: Copy>(slots: &mut [Slot<F>], free_head: usize, key: usize) -
     ensures found { result ≡ occupied_at slots.old key }
     ensures slots { slots.new ≡ (if result then slice_set slots.old key (NextFree free_head) else slots.old) }
 {
-    match get_in(slots, key) {
-        Some(_) => {
-            slots[key] = Slot::NextFree(free_head);
-            true
-        }
-        None => false,
+    let occupied = get_in(slots, key).is_some();
+    if occupied {
+        slots[key] = Slot::NextFree(free_head);
     }
+    occupied
 }
 
 // The task in a slot.
@@ -75,12 +58,9 @@ pub fn get_in<F: Copy>(slots: &[Slot<F>], key: usize) -> Option<F>
     ensures task { result ≡ task_at slots.now key }
     ensures within { is_some result ≡ true → key < length slots.now }
 {
-    match get_slot(slots, key) {
-        Some(slot) => match slot {
-            Slot::Occupied(task) => Some(task),
-            Slot::NextFree(_) => None,
-        },
-        None => None,
+    match slots.get(key)? {
+        Slot::Occupied(task) => Some(*task),
+        Slot::NextFree(_) => None,
     }
 }
 
