@@ -153,5 +153,9 @@ none_marked (b ∷ bs) e =
     let r : count_by (λ x. x) bs ≡ 0 = none_marked bs (λ k. e (suc k)) in
     omega (arith, s, z, r)
 
-pub nothing_waits : (records : List WakeRecord) → ((k : ℕ) → get_or (flags records) k false ≡ false) → Queued records (record { head = 0; tail = 0; waiting = 0 })
-nothing_waits records e = ((e, refl, none_marked (flags records) e), refl)
+pub nothing_waits : (records : List WakeRecord) (q : Queue) → q.waiting ≡ 0 → ((k : ℕ) → get_or (flags records) k false ≡ false)
+    → (waiting_in records q ≡ []) × Queued records q
+nothing_waits records q none e =
+    let At : ℕ → Type 0 = λ n. (walk (links records) n q.head ≡ []) × Chain (flags records) (links records) n q.head × (last_or q.tail (walk (links records) n q.head) ≡ q.tail) in
+    let here : At q.waiting = subst At (sym none) (refl, (e, refl, none_marked (flags records) e), refl) in
+    (here.0, (here.1, here.2))

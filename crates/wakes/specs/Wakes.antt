@@ -1,9 +1,9 @@
 -- The wake list by its rules.
-use Rattle.std.specs.Prelude.{ℕ, ◌≤◌, Bool, true, false, cond, List, [], length, take, drop}
+use Rattle.std.specs.Prelude.{ℕ, Bool, true, false, cond, List, [], length, take, drop}
 use Rattle.lists.specs.Queues.{enqueued, rest}
 use Rattle.lists.specs.Walks.{member}
 use Rattle.std.specs.List.{between}
-use Rattle.wakes.specs.Queue.{waiting_in, Queued}
+use Rattle.wakes.specs.Queue.{waiting_in}
 use Rattle.wakes.specs.declared.wake_record.WakeRecord.{WakeRecord}
 use Rattle.wakes.specs.declared.waker_list.WakerList.{WakerList}
 
@@ -43,28 +43,15 @@ pub record Held : Type 0 where
   pub beyond : List WakeRecord
 
 abbrev pub records_of : WakerList → List WakeRecord
-records_of l = between l.start l.end l.records.now
+records_of l = between l.part.start l.part.end l.records.now
 
 abbrev pub held : WakerList → Held
 held l = record {
-  before = take l.start l.records.now;
+  before = take l.part.start l.records.now;
   places = length (records_of l);
   wakes = record { waiting = waiting_in (records_of l) l.queue; registered = l.registered };
-  beyond = drop l.end l.records.now;
+  beyond = drop l.part.end l.records.now;
 }
 
 abbrev pub with_wakes : Held → Wakes → Held
 with_wakes h w = record { before = h.before; places = h.places; wakes = w; beyond = h.beyond }
-
--- What a wake list keeps: its part lies in the memory, and the queue in the part.
-abbrev pub Starts : WakerList → Type 0
-Starts l = l.start ≤ l.end
-
-abbrev pub Within : WakerList → Type 0
-Within l = l.end ≤ length l.records.now
-
-abbrev pub QueueKept : WakerList → Type 0
-QueueKept l = Queued (records_of l) l.queue
-
-abbrev pub Sound : WakerList → Type 0
-Sound l = Starts l × Within l × QueueKept l

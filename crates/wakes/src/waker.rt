@@ -15,7 +15,8 @@ pub struct RawWaker {
 }
 
 impl Waker {
-    // The token of these two numbers. Whoever makes one answers for it: a set refuses those that it can tell.
+    // The token of these two numbers. Whoever makes one answers for it: a set refuses those that it can tell. It has
+    // Rust's name for this and is no `From`, so that no `into` makes a token unseen.
     pub fn from_raw(raw: RawWaker) -> Waker
         ensures { result ≡ record { name = raw.name; address = raw.address } }
     {
@@ -25,7 +26,7 @@ impl Waker {
         }
     }
 
-    // The token's two numbers. The token is gone, and is still owed to its set.
+    // The token's two numbers. The token is gone, and is still owed to its set: that too has to be seen where it is written.
     pub fn into_raw(self) -> RawWaker
         ensures { result ≡ record { name = self.name; address = self.address } }
     {

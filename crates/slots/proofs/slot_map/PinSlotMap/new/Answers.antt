@@ -1,10 +1,9 @@
-use Rattle.std.proofs.Common.{◌≡◌, ◌-◌, length, take, drop, ap, ◌∙◌}
+use Rattle.std.proofs.Common.{◌≡◌, ◌-◌, take, drop, ap, ◌∙◌}
 use Rattle.slots.proofs.HeldParts.{fresh_part}
 use Rattle.slots.proofs.slot_map.PinSlotMap.new.Goals as goal
 use Rattle.slots.specs.Held.{Held}
 use Rattle.slots.specs.Table.{fresh_slots}
 use Rattle.std.proofs.lemmas.List.Edits.{length-between}
-use Rattle.std.specs.List.{between}
 
 pub invariant_of-result : goal.invariant_of-result
 invariant_of-result g c =
