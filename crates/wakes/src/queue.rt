@@ -59,5 +59,6 @@ impl Queue {
 pub fn fresh_in(records: &mut [WakeRecord])
     ensures { (k : ℕ) → slice_index_or (flags records.new) k false ≡ false }
 {
-    records.fill(WakeRecord::default());
+    let empty = WakeRecord::default();
+    records.fill(empty);
 }

@@ -6,4 +6,4 @@ use Rattle.wakes.specs.Queue.{flags}
 pub returns : goal.returns
 returns c k =
     ap (λ rs. get_or (flags rs) k false) (c.fill.ensures.after (λ y same. search rules))
-    ∙ none_flagged c.default.result (length c.args.records.now) k c.default.ensures.0
+    ∙ none_flagged c.default-empty.result (length c.args.records.now) k c.default-empty.ensures.0
