@@ -15,7 +15,6 @@ use Rattle.sets.proofs.FairPolls.{Fair, fair, weight, weigh, weigh_set, count_in
 use Rattle.sets.specs.Bounded.{Bounded, how_many, made, kind, step, slots_of, elements, held_in, push_answer, capacity_of, queued, NeverAgain}
 use Rattle.sets.specs.Group.{Group, polled, polling, registered, found_if, finishing, output_of, vacated, turn, turn_at, turn_from, dequeued, woken_if}
 use Rattle.sets.specs.declared.turn.Found.{Found}
-use Rattle.sets.specs.declared.turn.Turn.TheVariants.{Served}
 use Rattle.slots.proofs.Chained.{Inserts, insert_chained, fresh_chained, fresh_len, occupied_within}
 use Rattle.slots.proofs.HeldParts.{inserted_full, inserted_open}
 use Rattle.slots.specs.Table.{Table, len, full, inserted, task_at, vacant, Chained, fresh_slots}
@@ -197,7 +196,7 @@ module _ {F O : Type 0} (acts : Acts F O) (bearing : F → ℕ × ℕ) (bears : 
 
   -- and a future that is ready is never polled again
   passed_by : (g : Group F) (post : List ℕ) (i : ℕ) (o : Option ℕ) → o ≡ Some i → task_at g.table.slots i ≡ None
-      → turn_from acts post g o ≡ (Served 0, dequeued acts post g)
+      → turn_from acts post g o ≡ (Some (record { notices = 0; found = None }), dequeued acts post g)
   passed_by g post i o e none =
       ap (λ p. turn_from acts post g p) e ∙ ap (λ f. turn_at acts post (dequeued acts post g) i f) none
 

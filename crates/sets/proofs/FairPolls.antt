@@ -2,10 +2,9 @@
 use Rattle.std.proofs.Common.{◌≡◌, ℕ, zero, suc, ◌+◌, ◌<◌, Bool, true, false, cond, eqb, List, [], ◌∷◌, map, length, get_or, set, is_some, Some, None, sum_by, count_by, Option, sym, refl, ap, ◌∙◌, subst, arith}
 use Rattle.lists.specs.Queues.{first}
 use Rattle.sets.specs.Bounded.{held_in}
-use Rattle.sets.specs.Group.{Group, Outcome, turn, turn_at, turn_from, turn_answer, self_notice, dequeued, served, after_turn, polling, registered, found, found_if, polled, output_of, vacated, finishing}
+use Rattle.sets.specs.Group.{Group, Outcome, turn, turn_at, turn_from, found_at, dequeued, served, after_found, after_turn, polling, registered, found, found_if, polled, output_of, vacated, finishing}
 use Rattle.sets.specs.declared.turn.Found.{Found}
 use Rattle.sets.specs.declared.turn.Turn.{Turn}
-use Rattle.sets.specs.declared.turn.Turn.TheVariants.{Idle, Served, Gave}
 use Rattle.slots.proofs.Chained.{remove_chained, replace_chained, occupied_within}
 use Rattle.slots.proofs.HeldParts.{removed_there}
 use Rattle.slots.specs.Table.{Table, task_in, task_at, occupied, occupied_at, len, removed, Chained}
@@ -84,10 +83,13 @@ module _ {F O X : Type 0} (acts : Acts F O) (bearing : F → X) (bears : O → X
       (occupied_at g'.table.slots i ≡ true)
       × ((test : X → Bool) → weigh bearing test (set g'.table.slots i (NextFree g'.table.head)) + cond (test (bears x)) 1 0 ≡ weigh bearing test g.table.slots)
 
-  pub TurnDid : Group F → Group F → Turn O → Type 0
-  TurnDid g g' Idle = Same g g'
-  TurnDid g g' (Served n) = Same g g'
-  TurnDid g g' (Gave n i x) = Done g g' i x
+  pub FoundDid : Group F → Group F → Option (Found O) → Type 0
+  FoundDid g g' None = Same g g'
+  FoundDid g g' (Some f) = Done g g' f.slot f.answer
+
+  pub TurnDid : Group F → Group F → Option (Turn O) → Type 0
+  TurnDid g g' None = Same g g'
+  TurnDid g g' (Some t) = FoundDid g g' t.found
 
   pub PollDid : Group F → Group F → Poll (Option (Found O)) → Type 0
   PollDid g g' Pending = Same g g'
@@ -112,13 +114,13 @@ module _ {F O X : Type 0} (acts : Acts F O) (bearing : F → X) (bears : O → X
       chained = λ c. (replace_chained g.table.slots g.table.head i (acts.after f post) c (ap is_some there)).chained;
     }
 
-    answered : (n : ℕ) (p : Poll O) → acts.answers f post ≡ p → TurnDid g (served acts post g i f) (turn_answer acts post n i p)
-    unfolding TurnDid Same Done
-    answered n Pending e = λ test.
+    answered : (p : Poll O) → acts.answers f post ≡ p → FoundDid g (served acts post g i f) (found_at acts post i p)
+    unfolding FoundDid Same Done
+    answered Pending e = λ test.
         let w = weigh_set bearing test g.table.slots i (Occupied (acts.after f post)) within in
         let same : ◌≡◌ {A = ℕ} (cond (test (bearing (acts.after f post))) 1 0) (cond (test (bearing f)) 1 0) = ap (λ x. cond (test x) 1 0) (keeps f e) in
         omega (arith, w, was test, same)
-    answered n (Ready x) e = (
+    answered (Ready x) e = (
       still_occupied g.table.slots i (acts.after f post) within,
       λ test.
           let w = weigh_set bearing test g.table.slots i (NextFree g.table.head) within in
@@ -138,27 +140,31 @@ module _ {F O X : Type 0} (acts : Acts F O) (bearing : F → X) (bears : O → X
   unfolding Same
   self_same g g' e test = ap (λ (t : Table F). weigh bearing test t.slots) e
 
-  record Turned (g g' : Group F) (r : Turn O) : Type 0 where
+  record Turned (g g' : Group F) (r : Option (Turn O)) : Type 0 where
     kept : TableKept g g'
     outcome : TurnDid g g' r
 
   -- only the table counts
-  moved_to : (g h g' : Group F) (r : Turn O) → h.table ≡ g.table → TurnDid h g' r → TurnDid g g' r
-  unfolding TurnDid Same Done
-  moved_to g h g' Idle e d = λ test. d test ∙ ap (λ (t : Table F). weigh bearing test t.slots) e
-  moved_to g h g' (Served n) e d = λ test. d test ∙ ap (λ (t : Table F). weigh bearing test t.slots) e
-  moved_to g h g' (Gave n i x) e d = (d.0, λ test. d.1 test ∙ ap (λ (t : Table F). weigh bearing test t.slots) e)
+  found_moved : (g h g' : Group F) (o : Option (Found O)) → h.table ≡ g.table → FoundDid h g' o → FoundDid g g' o
+  unfolding FoundDid Same Done
+  found_moved g h g' None e d = λ test. d test ∙ ap (λ (t : Table F). weigh bearing test t.slots) e
+  found_moved g h g' (Some f) e d = (d.0, λ test. d.1 test ∙ ap (λ (t : Table F). weigh bearing test t.slots) e)
+
+  moved_to : (g h g' : Group F) (r : Option (Turn O)) → h.table ≡ g.table → TurnDid h g' r → TurnDid g g' r
+  unfolding TurnDid Same
+  moved_to g h g' None e d = λ test. d test ∙ ap (λ (t : Table F). weigh bearing test t.slots) e
+  moved_to g h g' (Some u) e d = found_moved g h g' u.found e d
 
   at_turned : (h : Group F) (i : ℕ) (o : Option F) → task_at h.table.slots i ≡ o → Turned h (turn_at acts post h i o).1 (turn_at acts post h i o).0
-  unfolding TurnDid
+  unfolding TurnDid FoundDid
   at_turned h i None there = record { kept = self_kept h h refl; outcome = self_same h h refl }
   at_turned h i (Some f) there = record {
     kept = served_kept h i f there;
-    outcome = answered h i f there (self_notice acts post h i f) (acts.answers f post) refl;
+    outcome = answered h i f there (acts.answers f post) refl;
   }
 
   from_turned : (g : Group F) (o : Option ℕ) → Turned g (turn_from acts post g o).1 (turn_from acts post g o).0
-  unfolding TurnDid Same Done
+  unfolding TurnDid FoundDid Same Done
   from_turned g None = record { kept = self_kept g g refl; outcome = self_same g g refl }
   from_turned g (Some i) =
       let t = at_turned (dequeued acts post g) i (task_at g.table.slots i) refl in
@@ -181,15 +187,21 @@ module _ {F O X : Type 0} (acts : Acts F O) (bearing : F → X) (bears : O → X
   did_on g h k (Ready None) s d = d
   did_on g h k (Ready (Some f)) s d = (d.0, λ test. d.1 test ∙ s test)
 
-  step_well : (g h : Group F) (go : Group F → ℕ → Outcome F (Found O)) (n t : ℕ) (r : Turn O) → Turned g h r
+  found_well : (g h : Group F) (go : Group F → ℕ → Outcome F (Found O)) (m t : ℕ) (o : Option (Found O)) → TableKept g h → FoundDid g h o
+      → ((k : Group F) (j : ℕ) → PolledWell k (go k j).group (go k j).answer.poll)
+      → PolledWell g (after_found acts post go m t o h).group (after_found acts post go m t o h).answer.poll
+  unfolding FoundDid PollDid
+  found_well g h go m t None kept did rest =
+      let w = rest h m in
+      record { kept = kept_on g h (go h m).group kept w.kept; outcome = did_on g h (go h m).group (go h m).answer.poll did w.outcome }
+  found_well g h go m t (Some f) kept did rest = record { kept = kept; outcome = did }
+
+  step_well : (g h : Group F) (go : Group F → ℕ → Outcome F (Found O)) (n t : ℕ) (r : Option (Turn O)) → Turned g h r
       → ((k : Group F) (m : ℕ) → PolledWell k (go k m).group (go k m).answer.poll)
       → PolledWell g (after_turn acts post go n t r h).group (after_turn acts post go n t r h).answer.poll
   unfolding TurnDid PollDid
-  step_well g h go n t Idle d rest = record { kept = d.kept; outcome = d.outcome }
-  step_well g h go n t (Served m) d rest =
-      let w = rest h (n + m) in
-      record { kept = kept_on g h (go h (n + m)).group d.kept w.kept; outcome = did_on g h (go h (n + m)).group (go h (n + m)).answer.poll d.outcome w.outcome }
-  step_well g h go n t (Gave m i x) d rest = record { kept = d.kept; outcome = d.outcome }
+  step_well g h go n t None d rest = record { kept = d.kept; outcome = d.outcome }
+  step_well g h go n t (Some u) d rest = found_well g h go (n + u.notices) t u.found d.kept d.outcome rest
 
   pub polling_well : (left n t : ℕ) (g : Group F) → PolledWell g (polling acts post left n t g).group (polling acts post left n t g).answer.poll
   unfolding polling PollDid
@@ -284,11 +296,15 @@ module _ {F O X : Type 0} (acts : Acts F O) (bearing : F → X) (bears : O → X
 
 -- what every turn keeps, a poll keeps
 module _ {F O : Type 0} (acts : Acts F O) (post : List ℕ) (Kept : Group F → Type 0) (keeps : (g : Group F) → Kept g → Kept (turn acts post g).1) where
-  step_keeps : (h : Group F) (go : Group F → ℕ → Outcome F (Found O)) (n t : ℕ) (r : Turn O) → Kept h
+  found_keeps : (h : Group F) (go : Group F → ℕ → Outcome F (Found O)) (m t : ℕ) (o : Option (Found O)) → Kept h
+      → ((k : Group F) (j : ℕ) → Kept k → Kept (go k j).group) → Kept (after_found acts post go m t o h).group
+  found_keeps h go m t None i rest = rest h m i
+  found_keeps h go m t (Some f) i rest = i
+
+  step_keeps : (h : Group F) (go : Group F → ℕ → Outcome F (Found O)) (n t : ℕ) (r : Option (Turn O)) → Kept h
       → ((k : Group F) (m : ℕ) → Kept k → Kept (go k m).group) → Kept (after_turn acts post go n t r h).group
-  step_keeps h go n t Idle i rest = i
-  step_keeps h go n t (Served m) i rest = rest h (n + m) i
-  step_keeps h go n t (Gave m j x) i rest = i
+  step_keeps h go n t None i rest = i
+  step_keeps h go n t (Some u) i rest = found_keeps h go (n + u.notices) t u.found i rest
 
   pub polling_keeps : (left n t : ℕ) (g : Group F) → Kept g → Kept (polling acts post left n t g).group
   unfolding polling

@@ -8,7 +8,6 @@ use Rattle.runs.specs.Tokens.{Tokened}
 use Rattle.sets.specs.Group.{Group, joined, found, polled, turn, woken_at, group_flipped}
 use Rattle.sets.specs.Group as group
 use Rattle.sets.specs.declared.turn.Found.{Found}
-use Rattle.sets.specs.declared.turn.Turn.TheVariants.{Served}
 use Rattle.slots.specs.Table.{len, full, task_at, occupied_at}
 use Rattle.slots.specs.declared.slot.Slot.{Slot}
 use Rattle.slots.specs.declared.slot.Slot.TheVariants.{Occupied, NextFree}
@@ -114,4 +113,4 @@ module _ {F O : Type 0} (acts : Acts F O) where
         → ((step (reached step fresh calls) (poll post)).1.poll ≡ Ready (Some f.answer))
         × (task_at (slots_of (step (reached step fresh calls) (poll post)).0) f.slot ≡ None)
     pub vacant_passed : (g : Group F) (post : List ℕ) (i : ℕ) → first g.wakes.waiting ≡ Some i → task_at g.table.slots i ≡ None
-        → turn acts post g ≡ (Served 0, record { table = g.table; wakes = wakes.popped g.wakes })
+        → turn acts post g ≡ (Some (record { notices = 0; found = None }), record { table = g.table; wakes = wakes.popped g.wakes })

@@ -31,13 +31,6 @@ group_in g = record { table = g.tasks.table; wakes = g.shared.wakes }
 abbrev pub with_group : {F : Type 0} → Ground F → Group F → Ground F
 with_group g h = record { tasks = slots.with_table g.tasks h.table; shared = wakes.with_wakes g.shared h.wakes }
 
--- What a group keeps: its table and its wake list are sound, and there is one wake record for each slot.
-abbrev pub Paired : {F : Type 0} → TaskGroup F → Type 0
-Paired t = length (slots.slots_of t.tasks) ≡ length (wakes.records_of t.shared)
-
-abbrev pub Sound : {F : Type 0} → TaskGroup F → Type 0
-Sound t = slots.Sound t.tasks × wakes.Sound t.shared × Paired t
-
 -- A group whose part begins where the memory begins.
 abbrev pub FromStart : {F : Type 0} → TaskGroup F → Type 0
 FromStart t = (length (ground t).tasks.before ≡ 0) × (length (ground t).shared.before ≡ 0)

@@ -3,7 +3,6 @@ use Rattle.std.specs.Prelude.{ℕ, zero, suc, ◌+◌, Bool, cond, List, Some, N
 use Rattle.lists.specs.Queues.{first, enqueued}
 use Rattle.sets.specs.declared.turn.Found.{Found}
 use Rattle.sets.specs.declared.turn.Turn.{Turn}
-use Rattle.sets.specs.declared.turn.Turn.TheVariants.{Idle, Served, Gave}
 use Rattle.slots.specs.Flips.{table_flipped}
 use Rattle.slots.specs.Table.{Table, task_at, len, full, inserted, removed}
 use Rattle.slots.specs.Table as table
@@ -64,32 +63,35 @@ module _ {F A : Type 0} (acts : Acts F A) (post : List ℕ) where
   abbrev pub self_notice : Group F → ℕ → F → ℕ
   self_notice g i f = cond (acts.wakes f post) (notice g.wakes i) 0
 
-  abbrev pub turn_answer : ℕ → ℕ → Poll A → Turn A
-  turn_answer notices i (Ready x) = Gave notices i x
-  turn_answer notices i Pending = Served notices
+  -- What a poll of the task in slot i found, where the task gave an answer.
+  abbrev pub found_at : ℕ → Poll A → Option (Found A)
+  found_at i (Ready x) = Some (record { slot = i; answer = x })
+  found_at i Pending = None
 
-  -- A turn dequeues one slot. A vacant slot is passed over, and the task of an occupied one is polled.
+  -- A turn dequeues one slot, if one waits. A vacant slot is passed over, and the task of an occupied one is polled.
   abbrev pub dequeued : Group F → Group F
   dequeued g = record { table = g.table; wakes = popped g.wakes }
 
-  abbrev pub turn_at : Group F → ℕ → Option F → Turn A × Group F
-  turn_at g i None = (Served 0, g)
-  turn_at g i (Some f) = (turn_answer (self_notice g i f) i (acts.answers f post), served g i f)
+  abbrev pub turn_at : Group F → ℕ → Option F → Option (Turn A) × Group F
+  turn_at g i None = (Some (record { notices = 0; found = None }), g)
+  turn_at g i (Some f) = (Some (record { notices = self_notice g i f; found = found_at i (acts.answers f post) }), served g i f)
 
-  abbrev pub turn_from : Group F → Option ℕ → Turn A × Group F
-  turn_from g None = (Idle, g)
+  abbrev pub turn_from : Group F → Option ℕ → Option (Turn A) × Group F
+  turn_from g None = (None, g)
   turn_from g (Some i) = turn_at (dequeued g) i (task_at g.table.slots i)
 
-  abbrev pub turn : Group F → Turn A × Group F
+  abbrev pub turn : Group F → Option (Turn A) × Group F
   turn g = turn_from g (first g.wakes.waiting)
 
   -- Turns are taken until a task gives an answer, the queue is empty, or none of the turns is left. In the last case the
   -- parent gets one notice, and stays registered.
-  abbrev pub after_turn : (Group F → ℕ → Outcome F (Found A)) → ℕ → ℕ → Turn A → Group F → Outcome F (Found A)
-  after_turn go notices turns Idle g = record { answer = record { poll = Pending; notices = notices; turns = turns }; group = g }
-  after_turn go notices turns (Served more) g = go g (notices + more)
-  after_turn go notices turns (Gave more i x) g =
-      record { answer = record { poll = Ready (Some (record { slot = i; answer = x })); notices = notices + more; turns = turns + 1 }; group = g }
+  abbrev pub after_found : (Group F → ℕ → Outcome F (Found A)) → ℕ → ℕ → Option (Found A) → Group F → Outcome F (Found A)
+  after_found go notices turns None g = go g notices
+  after_found go notices turns (Some f) g = record { answer = record { poll = Ready (Some f); notices = notices; turns = turns + 1 }; group = g }
+
+  abbrev pub after_turn : (Group F → ℕ → Outcome F (Found A)) → ℕ → ℕ → Option (Turn A) → Group F → Outcome F (Found A)
+  after_turn go notices turns None g = record { answer = record { poll = Pending; notices = notices; turns = turns }; group = g }
+  after_turn go notices turns (Some t) g = after_found go (notices + t.notices) turns t.found g
 
   unfoldable pub polling : ℕ → ℕ → ℕ → Group F → Outcome F (Found A)
   polling zero notices turns g = record { answer = record { poll = Pending; notices = notices + 1; turns = turns }; group = g }

@@ -1,12 +1,9 @@
-// What one turn of a poll did.
+// What a turn that took a slot from the queue gave: how many notices the parent got, and the answer of the slot's task, if
+// it gave one.
 #[derive(Clone, Copy)]
-pub enum Turn<A> {
-    // the queue was empty
-    Idle,
-    // a slot was dequeued, and gave nothing; the parent got that many notices
-    Served(u32),
-    // the task of that slot gave an answer
-    Gave(u32, usize, A),
+pub struct Turn<A> {
+    pub notices: u32,
+    pub found: Option<Found<A>>,
 }
 
 // An answer, and the slot of the task that gave it.

@@ -26,7 +26,7 @@ module _ {F : Type 0} where
 
   -- what a slot map keeps
   pub kept : (m : PinSlotMap F) → SoundIn m.slots.now m.part.start m.part.end m.free_head m.filled
-  kept m = (m.part.ordered, m.within, m.free_chained, m.counted)
+  kept m = (m.starts, m.within, m.free_chained, m.counted)
 
   -- the map after its slots became ys, with another head and count
   pub record Changed (xs ys zs : List (Slot F)) (a e head filled : ℕ) : Type 0 where

@@ -15,6 +15,7 @@ pub struct PinSlotMap<'a, F> {
     part: Part,
     free_head: usize,
     filled: usize,
+    ghost starts: { part.start ≤ part.end },
     ghost within: { part.end ≤ length slots.now },
     ghost free_chained: { Chained (between part.start part.end slots.now) free_head },
     ghost counted: { filled ≡ tasks_in (between part.start part.end slots.now) },
@@ -28,7 +29,7 @@ impl<'a, F: Copy> PinSlotMap<'a, F> {
 
     // A fresh table in that part of the memory.
     pub fn new(slots: &'a mut [Slot<F>], part: Part) -> PinSlotMap<'a, F>
-        requires { part.end ≤ length slots.old }
+        requires { (part.start ≤ part.end) × (part.end ≤ length slots.old) }
         ensures { held result ≡ record { before = take part.start slots.old; table = fresh (part.end - part.start); beyond = drop part.end slots.old } }
     {
         fresh_in(&mut slots[part.start..part.end]);

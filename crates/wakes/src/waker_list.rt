@@ -12,6 +12,7 @@ pub struct WakerList<'a> {
     part: Part,
     queue: Queue,
     registered: bool,
+    ghost starts: { part.start ≤ part.end },
     ghost within: { part.end ≤ length records.now },
     ghost queue_kept: { Queued (between part.start part.end records.now) queue },
 }
@@ -24,7 +25,7 @@ impl<'a> WakerList<'a> {
 
     // A fresh one in that part of the memory: nothing waits, and nobody is registered.
     pub fn new(records: &'a mut [WakeRecord], part: Part) -> WakerList<'a>
-        requires { part.end ≤ length records.old }
+        requires { (part.start ≤ part.end) × (part.end ≤ length records.old) }
         ensures { held result ≡ record { before = take part.start records.old; places = part.end - part.start; wakes = fresh; beyond = drop part.end records.old } }
     {
         fresh_in(&mut records[part.start..part.end]);

@@ -31,7 +31,7 @@ invariant_of-self g c =
     let m = c.args.self.now in
     let i = insert_part m.slots.now c.insert_in-next_free.new.slots m.part.start m.part.end m.free_head m.filled (kept m)
     c.insert_in-next_free.result c.args.task (omega arith) c.insert_in-next_free.ensures.slots c.insert_in-next_free.ensures.next in
-    record { within = i.sound_then.1; free_chained = i.sound_then.2; counted = i.sound_then.3 }
+    record { starts = i.sound_then.0; within = i.sound_then.1; free_chained = i.sound_then.2; counted = i.sound_then.3 }
 
 pub returns : goal.returns
 returns g c =

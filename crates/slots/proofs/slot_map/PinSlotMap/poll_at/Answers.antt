@@ -6,7 +6,7 @@ invariant_of-self g c =
     let m = c.args.self.now in
     let both = polled_part m.slots.now c.poll_in.new.slots m.part.start m.part.end m.free_head m.filled (kept m)
     g.P.PollFn.acts c.args.post.now c.args.key c.poll_in.ensures.slots in
-    record { within = both.1.1; free_chained = both.1.2; counted = both.1.3 }
+    record { starts = both.1.0; within = both.1.1; free_chained = both.1.2; counted = both.1.3 }
 
 pub returns : goal.returns
 returns g c =

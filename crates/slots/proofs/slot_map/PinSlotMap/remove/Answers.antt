@@ -16,7 +16,7 @@ invariant_of-self g c =
     let m = c.args.self.now in
     let r = remove_part m.slots.now c.remove_in.new.slots m.part.start m.part.end m.free_head m.filled (kept m)
     c.args.key (sym c.if-remove_in.ensures.found) c.if-remove_in.ensures.slots in
-    record { within = r.sound_then.1; free_chained = r.sound_then.2; counted = r.sound_then.3 }
+    record { starts = r.sound_then.0; within = r.sound_then.1; free_chained = r.sound_then.2; counted = r.sound_then.3 }
 
 pub returns-then-remove_in : goal.returns-then-remove_in
 returns-then-remove_in g c =
@@ -31,7 +31,7 @@ invariant_of-self-else-remove_in g c =
     let t = (held m).table in
     let both = same_part m.slots.now c.remove_in.new.slots m.part.start m.part.end m.free_head m.filled (kept m)
     (removed t c.args.key) (removed_not t c.args.key (sym c.if-remove_in.ensures.found)) c.if-remove_in.ensures.slots in
-    record { within = both.1.1; free_chained = both.1.2; counted = both.1.3 }
+    record { starts = both.1.0; within = both.1.1; free_chained = both.1.2; counted = both.1.3 }
 
 pub returns-else-remove_in : goal.returns-else-remove_in
 returns-else-remove_in g c =

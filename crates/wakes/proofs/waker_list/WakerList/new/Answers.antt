@@ -9,8 +9,8 @@ pub invariant_of-result : goal.invariant_of-result
 invariant_of-result c =
     let waits = nothing_waits c.fresh_in.new.records c.default.result c.default.ensures.1.1 c.fresh_in.ensures in
     let there = change_part c.args.records.now c.fresh_in.new.records c.args.part.start c.args.part.end c.default.result [] false
-    c.args.part.ordered c.requires c.fresh_in.auto.records waits.0 waits.1 in
-    record { within = there.sound.1; queue_kept = there.sound.2 }
+    c.requires.0 c.requires.1 c.fresh_in.auto.records waits.0 waits.1 in
+    record { starts = there.sound.0; within = there.sound.1; queue_kept = there.sound.2 }
 
 pub returns : goal.returns
 returns c =
@@ -18,5 +18,5 @@ returns c =
     let a = c.args.part.start in
     let e = c.args.part.end in
     let waits = nothing_waits c.fresh_in.new.records c.default.result c.default.ensures.1.1 c.fresh_in.ensures in
-    let there = change_part xs c.fresh_in.new.records a e c.default.result [] false c.args.part.ordered c.requires c.fresh_in.auto.records waits.0 waits.1 in
-    there.held ∙ ap (λ n. let h : Held = record { before = take a xs; places = n; wakes = fresh; beyond = drop e xs } in h) (length-between xs a e c.requires)
+    let there = change_part xs c.fresh_in.new.records a e c.default.result [] false c.requires.0 c.requires.1 c.fresh_in.auto.records waits.0 waits.1 in
+    there.held ∙ ap (λ n. let h : Held = record { before = take a xs; places = n; wakes = fresh; beyond = drop e xs } in h) (length-between xs a e c.requires.1)

@@ -5,4 +5,4 @@ pub returns-clause-after : goal.returns-clause-after
 returns-clause-after c =
     let l = c.args.self.now in
     (change_part l.records.now c.dequeue.new.records l.part.start l.part.end c.dequeue.new.self _ l.registered
-    l.part.ordered l.within c.dequeue.auto.records c.dequeue.ensures.waiting c.dequeue.ensures.kept).held
+    l.starts l.within c.dequeue.auto.records c.dequeue.ensures.waiting c.dequeue.ensures.kept).held
