@@ -1,15 +1,10 @@
 -- A part of a memory, before and after it was changed.
-use Rattle.std.proofs.Common.{◌≡◌, ℕ, ◌+◌, ◌-◌, ◌<◌, ◌≤◌, List, [], ◌∷◌, ◌++◌, length, get_or, take, drop, Some, sym, ap, ◌∙◌, arith}
+use Rattle.std.proofs.Common.{◌≡◌, ℕ, ◌+◌, ◌-◌, ◌≤◌, List, ◌++◌, length, take, drop, sym, ap, ◌∙◌, arith}
 use borrow.Rule.Slice.PartMut.{put_mid}
-use Rattle.std.proofs.lemmas.List.Edits.{length-between, get_or-between}
+use Rattle.std.proofs.lemmas.List.Edits.{length-between}
 use Rattle.std.proofs.lemmas.List.{length-take, length-take-le, length-drop, length-append, drop-drop, take-append-drop}
-use Rattle.std.proofs.lemmas.Option.{slice_get-get_or}
 use Rattle.std.proofs.lemmas.Slice.{take-put_mid_below, between-put_mid, drop-put_mid}
-use Rattle.std.specs.List.{slice_get, between}
-
-nth_at : {X : Type 0} (xs ys : List X) (i j : ℕ) → i < length xs → j < length ys → ((d : X) → get_or xs i d ≡ get_or ys j d) → slice_get xs i ≡ slice_get ys j
-nth_at [] ys i j lt lt' same = absurd (omega arith)
-nth_at (x ∷ xs) ys i j lt lt' same = slice_get-get_or (x ∷ xs) i x lt ∙ ap (λ y. Some y) (same x) ∙ sym (slice_get-get_or ys j x lt')
+use Rattle.std.specs.List.{between}
 
 -- what a memory holds after its part from a to e became ys
 pub record Put {X : Type 0} (xs ys zs : List X) (a e : ℕ) : Type 0 where
@@ -28,10 +23,6 @@ put_part xs ys a e ae within same =
       beyond = drop-put_mid a (e - a) xs ys e (omega arith) (omega arith) long;
       long = simp (length-append, length-take, length-drop) (omega arith);
     }
-
--- the element of a part is the one of the memory
-pub nth_between : {X : Type 0} (xs : List X) (a e k : ℕ) → e ≤ length xs → k < e - a → slice_get (between a e xs) k ≡ slice_get xs (a + k)
-nth_between xs a e k within lt = nth_at (between a e xs) xs k (a + k) (simp length-between lt) (omega arith) (λ d. get_or-between xs a e k d (omega arith))
 
 -- a memory is what lies before a part, the part, and what lies beyond it
 pub whole_from_parts : {X : Type 0} (xs : List X) (a e : ℕ) → a ≤ e → take a xs ++ (between a e xs ++ drop e xs) ≡ xs

@@ -1,3 +1,2 @@
 pub mod Chained
 pub mod HeldParts
-pub mod SlotReads
