@@ -44,7 +44,7 @@ struct Book {
     unanswered: u64,
 }
 
-// The desk. Its set is given up by `end`.
+// The desk: the set of the orders, and its book. The set has to be taken apart at the end.
 struct Desk<'a> {
     set: Orders<'a>,
     book: Book,
@@ -164,8 +164,8 @@ impl Desk<'_> {
                 self.book.waiting.push(Waiting { letter, raw })?;
                 Ok(())
             }
-            Err(refused) => {
-                println!(rt; "no token for address {address}: {}", Shown(refused.fault))
+            Err(Refused { fault, .. }) => {
+                println!(rt; "no token for address {address}: {}", Shown(fault))
             }
         }
     }
@@ -197,9 +197,11 @@ impl Desk<'_> {
             let token = Waker::from_raw(order.raw);
             let address = token.address();
             match self.set.wake(token) {
-                Ok(notice) => println!(rt;
-                    "reply at {place}: word {word}; woke address {address}, notice {notice}"
-                )?,
+                Ok(notice) => {
+                    println!(rt;
+                        "reply at {place}: word {word}; woke address {address}, notice {notice}"
+                    )?;
+                }
                 Err(refused) => given_back(rt, refused)?,
             }
         }
@@ -335,8 +337,12 @@ fn opened(rt: &HostRuntime, lines: &[String]) -> io::Result<Opening> {
             Ok(opening)
         }
         None => {
-            println!(rt; "no good open comes first: desk 1 open, slots 8")?;
-            Ok(Opening::default())
+            let opening = Opening::default();
+            println!(rt;
+                "no good open comes first: desk {} open, slots {}",
+                opening.name, opening.slots
+            )?;
+            Ok(opening)
         }
     }
 }

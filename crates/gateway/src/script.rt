@@ -1,6 +1,6 @@
 // The day's script: one command to a line.
 ghost use Rattle.std.specs.Prelude.{◌≡◌, ◌<◌, ◌≤◌, IfSome};
-ghost use Rattle.gateway.specs.Script.{Good};
+ghost use Rattle.gateway.specs.Script.{Good, silent};
 
 use tasks::letter::Letter;
 
@@ -24,10 +24,11 @@ pub enum Command {
 }
 
 // Whether a line says nothing: it is blank, or a comment.
-pub fn is_silent(line: &str) -> bool {
-    line.split_whitespace()
-        .next()
-        .is_none_or(|word| word.starts_with('#'))
+pub fn is_silent(line: &str) -> bool
+    ensures { result ≡ silent line.now }
+{
+    let text = line.trim_start();
+    text.is_empty() || text.starts_with('#')
 }
 
 fn small(word: Option<&str>) -> Option<u32> {
