@@ -15,6 +15,34 @@ const RECORD: WakeRecord = WakeRecord {
     next: 0,
 };
 
+// Runs a workload on a set of that capacity, in memory that is made for it and freed again.
+pub(crate) fn on_a_set<
+    F: Future + Copy,
+    W: FnOnce(&mut FuturesUnorderedBounded<'_, F>) -> Result<u64, AllocError>,
+>(heap: Global, capacity: u32, workload: W) -> Result<u64, AllocError>
+    requires { W.IsAlwaysCallable workload }
+{
+    let mut slots: Vec<Slot<F>> = vec![in heap; Slot::NextFree(0); capacity as usize]?;
+    let mut records = vec![in heap; RECORD; capacity as usize]?;
+    let mut set = FuturesUnorderedBounded::new(1, slots.as_mut_slice(), records.as_mut_slice());
+    let sum = workload(&mut set);
+    match set.take_apart() {
+        Ending::Ended(memory) => {
+            let Memory {
+                slots: _,
+                records: _,
+            } = memory;
+        }
+        Ending::Refused(_, left) => {
+            let Memory {
+                slots: _,
+                records: _,
+            } = left.abandon();
+        }
+    }
+    sum
+}
+
 // A future that is ready at its first poll.
 fn ready(number: u32) -> Countdown {
     Countdown {
@@ -27,9 +55,8 @@ fn ready(number: u32) -> Countdown {
 // The number of the ticket that a poll yields, or 0.
 fn yielded(set: &mut FuturesUnorderedBounded<Countdown>) -> u64 {
     match set.poll(&[]).poll {
-        Poll::Ready(Some(ticket)) => ticket.1 as u64,
-        Poll::Ready(None) => 0,
-        Poll::Pending => 0,
+        Poll::Ready(Some((_, number))) => number as u64,
+        _ => 0,
     }
 }
 
@@ -37,12 +64,9 @@ fn yielded(set: &mut FuturesUnorderedBounded<Countdown>) -> u64 {
 pub(crate) fn keep_full(set: &mut FuturesUnorderedBounded<Countdown>, futures: u32) -> u64 {
     let mut sum: u64 = 0;
     for number in 0..futures {
-        match set.push(ready(number)) {
-            Ok(_) => {}
-            Err(refused) => {
-                sum = sum.wrapping_add(yielded(set));
-                let _ = set.push(refused.input);
-            }
+        if let Err(refused) = set.push(ready(number)) {
+            sum = sum.wrapping_add(yielded(set));
+            let _ = set.push(refused.input);
         }
     }
     for _ in 0..set.len() {
