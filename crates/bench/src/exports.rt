@@ -9,13 +9,13 @@ use wakes::wake_record::WakeRecord;
 
 #[unsafe(no_mangle)]
 pub extern "C" fn bench_keep_full(heap: Global, capacity: u32, futures: u32) -> u64 {
-    on_a_set(heap, capacity, |set| Ok(keep_full(set, futures))).unwrap_or(0)
+    on_a_set(heap, capacity, |set| keep_full(set, futures)).unwrap_or(0)
 }
 
 #[unsafe(no_mangle)]
 pub extern "C" fn bench_fill_and_drain(heap: Global, capacity: u32, rounds: u32) -> u64 {
     on_a_set(heap, capacity, |set| {
-        Ok(fill_and_drain(set, capacity, rounds))
+        fill_and_drain(set, capacity, rounds)
     })
     .unwrap_or(0)
 }
@@ -25,6 +25,7 @@ pub extern "C" fn bench_wake_waiting(heap: Global, capacity: u32, rounds: u32) -
     on_a_set(heap, capacity, |set| {
         wake_waiting(heap, set, capacity, rounds)
     })
+    .and_then(|sum| sum)
     .unwrap_or(0)
 }
 

@@ -16,31 +16,26 @@ const RECORD: WakeRecord = WakeRecord {
 };
 
 // Runs a workload on a set of that capacity, in memory that is made for it and freed again.
-pub(crate) fn on_a_set<
-    F: Future + Copy,
-    W: FnOnce(&mut FuturesUnorderedBounded<'_, F>) -> Result<u64, AllocError>,
->(heap: Global, capacity: u32, workload: W) -> Result<u64, AllocError>
+pub(crate) fn on_a_set<F: Future + Copy, R, W: FnOnce(&mut FuturesUnorderedBounded<'_, F>) -> R>(
+    heap: Global,
+    capacity: u32,
+    workload: W,
+) -> Result<R, AllocError>
     requires { W.IsAlwaysCallable workload }
 {
-    let mut slots: Vec<Slot<F>> = vec![in heap; Slot::NextFree(0); capacity as usize]?;
+    // The records come first: with the slots first, filling and draining took a tenth longer.
     let mut records = vec![in heap; RECORD; capacity as usize]?;
+    let mut slots: Vec<Slot<F>> = vec![in heap; Slot::NextFree(0); capacity as usize]?;
     let mut set = FuturesUnorderedBounded::new(1, slots.as_mut_slice(), records.as_mut_slice());
-    let sum = workload(&mut set);
-    match set.take_apart() {
-        Ending::Ended(memory) => {
-            let Memory {
-                slots: _,
-                records: _,
-            } = memory;
-        }
-        Ending::Refused(_, left) => {
-            let Memory {
-                slots: _,
-                records: _,
-            } = left.abandon();
-        }
-    }
-    sum
+    let answer = workload(&mut set);
+    let Memory {
+        slots: _,
+        records: _,
+    } = match set.take_apart() {
+        Ending::Ended(memory) => memory,
+        Ending::Refused(_, left) => left.abandon(),
+    };
+    Ok(answer)
 }
 
 // A future that is ready at its first poll.
@@ -56,7 +51,7 @@ fn ready(number: u32) -> Countdown {
 fn yielded(set: &mut FuturesUnorderedBounded<Countdown>) -> u64 {
     match set.poll(&[]).poll {
         Poll::Ready(Some((_, number))) => number as u64,
-        _ => 0,
+        Poll::Ready(None) | Poll::Pending => 0,
     }
 }
 
@@ -69,6 +64,7 @@ pub(crate) fn keep_full(set: &mut FuturesUnorderedBounded<Countdown>, futures: u
             let _ = set.push(refused.input);
         }
     }
+    // Each future that is left is ready. A loop until the set says None would poll once more than the crate's side does.
     for _ in 0..set.len() {
         sum = sum.wrapping_add(yielded(set));
     }
