@@ -72,41 +72,35 @@ fn raw(name: u32, address: usize) -> RawWaker {
     RawWaker { name, address }
 }
 
+// A refused token, told by its numbers.
+fn told(refusal: Refused<Waker>) -> Refused<RawWaker> {
+    let Refused { fault, input } = refusal;
+    Refused {
+        fault,
+        input: input.into_raw(),
+    }
+}
+
 // What a token call answers, as plain values: a token is told by its numbers.
 fn hand(
     set: &mut FuturesUnorderedBounded<Task>,
     address: usize,
 ) -> Result<RawWaker, Refused<usize>> {
-    match set.hand(address) {
-        Ok(token) => Ok(token.into_raw()),
-        Err(refusal) => Err(refusal),
-    }
+    set.hand(address).map(Waker::into_raw)
 }
 
 fn clone(set: &mut FuturesUnorderedBounded<Task>, token: RawWaker) -> Result<RawWaker, Fault> {
     let brought = Waker::from_raw(token);
     let answer = set.clone(&brought);
     let _ = brought.into_raw();
-    match answer {
-        Ok(token) => Ok(token.into_raw()),
-        Err(fault) => Err(fault),
-    }
+    answer.map(Waker::into_raw)
 }
 
 fn wake(
     set: &mut FuturesUnorderedBounded<Task>,
     token: RawWaker,
 ) -> Result<u32, Refused<RawWaker>> {
-    match set.wake(Waker::from_raw(token)) {
-        Ok(notices) => Ok(notices),
-        Err(refusal) => {
-            let Refused { fault, input } = refusal;
-            Err(Refused {
-                fault,
-                input: input.into_raw(),
-            })
-        }
-    }
+    set.wake(Waker::from_raw(token)).map_err(told)
 }
 
 fn wake_by_ref(set: &mut FuturesUnorderedBounded<Task>, token: RawWaker) -> Result<u32, Fault> {
@@ -120,33 +114,26 @@ fn spend(
     set: &mut FuturesUnorderedBounded<Task>,
     token: RawWaker,
 ) -> Result<(), Refused<RawWaker>> {
-    match set.drop(Waker::from_raw(token)) {
-        Ok(()) => Ok(()),
-        Err(refusal) => {
-            let Refused { fault, input } = refusal;
-            Err(Refused {
-                fault,
-                input: input.into_raw(),
-            })
-        }
-    }
+    set.drop(Waker::from_raw(token)).map_err(told)
 }
 
-macro_rules! on_a_set {
-    ($rt:expr, $slots:expr, $records:expr, $run:ident) => {{
-        let mut slots = [SLOT; $slots];
-        let mut records = [RECORD; $records];
-        let mut set = FuturesUnorderedBounded::new(1, &mut slots, &mut records);
-        $run($rt, &mut set);
-        match set.take_apart() {
-            Ending::Ended(memory) => {
-                let Memory { slots: _, records: _ } = memory;
-            }
-            Ending::Refused(_, left) => {
-                let Memory { slots: _, records: _ } = left.abandon();
-            }
-        }
-    }};
+// Runs on a set of the name 1 in that memory, and takes it apart.
+fn on_a_set<R: FnOnce(&mut FuturesUnorderedBounded<'_, Task>)>(
+    slots: &mut [Slot<Task>],
+    records: &mut [WakeRecord],
+    run: R,
+)
+    requires { R.IsAlwaysCallable run }
+{
+    let mut set = FuturesUnorderedBounded::new(1, slots, records);
+    run(&mut set);
+    let Memory {
+        slots: _,
+        records: _,
+    } = match set.take_apart() {
+        Ending::Ended(memory) => memory,
+        Ending::Refused(_, left) => left.abandon(),
+    };
 }
 
 fn no_slot_run(rt: &impl Abort, set: &mut FuturesUnorderedBounded<Task>) {
@@ -159,7 +146,11 @@ fn no_slot_run(rt: &impl Abort, set: &mut FuturesUnorderedBounded<Task>) {
 
 #[test]
 fn no_slot(rt: HostRuntime) {
-    on_a_set!(&rt, 0, 0, no_slot_run)
+    on_a_set(
+        &mut [SLOT; 0],
+        &mut [RECORD; 0],
+        |set| no_slot_run(&rt, set),
+    )
 }
 
 fn two_slots_run(rt: &impl Abort, set: &mut FuturesUnorderedBounded<Task>) {
@@ -175,7 +166,11 @@ fn two_slots_run(rt: &impl Abort, set: &mut FuturesUnorderedBounded<Task>) {
 
 #[test]
 fn two_slots(rt: HostRuntime) {
-    on_a_set!(&rt, 2, 2, two_slots_run)
+    on_a_set(
+        &mut [SLOT; 2],
+        &mut [RECORD; 2],
+        |set| two_slots_run(&rt, set),
+    )
 }
 
 fn lesser_memory_run(rt: &impl Abort, set: &mut FuturesUnorderedBounded<Task>) {
@@ -189,7 +184,11 @@ fn lesser_memory_run(rt: &impl Abort, set: &mut FuturesUnorderedBounded<Task>) {
 
 #[test]
 fn lesser_memory(rt: HostRuntime) {
-    on_a_set!(&rt, 3, 1, lesser_memory_run)
+    on_a_set(
+        &mut [SLOT; 3],
+        &mut [RECORD; 1],
+        |set| lesser_memory_run(&rt, set),
+    )
 }
 
 fn push_letters(rt: &impl Abort, set: &mut FuturesUnorderedBounded<Task>, n: usize) {
@@ -205,7 +204,11 @@ fn sixty_run(rt: &impl Abort, set: &mut FuturesUnorderedBounded<Task>) {
 
 #[test]
 fn sixty(rt: HostRuntime) {
-    on_a_set!(&rt, 61, 61, sixty_run)
+    on_a_set(
+        &mut [SLOT; 61],
+        &mut [RECORD; 61],
+        |set| sixty_run(&rt, set),
+    )
 }
 
 fn sixty_two_run(rt: &impl Abort, set: &mut FuturesUnorderedBounded<Task>) {
@@ -218,7 +221,11 @@ fn sixty_two_run(rt: &impl Abort, set: &mut FuturesUnorderedBounded<Task>) {
 
 #[test]
 fn sixty_two(rt: HostRuntime) {
-    on_a_set!(&rt, 62, 62, sixty_two_run)
+    on_a_set(
+        &mut [SLOT; 62],
+        &mut [RECORD; 62],
+        |set| sixty_two_run(&rt, set),
+    )
 }
 
 fn sixty_one_run(rt: &impl Abort, set: &mut FuturesUnorderedBounded<Task>) {
@@ -228,7 +235,11 @@ fn sixty_one_run(rt: &impl Abort, set: &mut FuturesUnorderedBounded<Task>) {
 
 #[test]
 fn sixty_one(rt: HostRuntime) {
-    on_a_set!(&rt, 61, 61, sixty_one_run)
+    on_a_set(
+        &mut [SLOT; 61],
+        &mut [RECORD; 61],
+        |set| sixty_one_run(&rt, set),
+    )
 }
 
 fn two_wakes_run(rt: &impl Abort, set: &mut FuturesUnorderedBounded<Task>) {
@@ -256,7 +267,11 @@ fn two_wakes_run(rt: &impl Abort, set: &mut FuturesUnorderedBounded<Task>) {
 
 #[test]
 fn two_wakes(rt: HostRuntime) {
-    on_a_set!(&rt, 1, 1, two_wakes_run)
+    on_a_set(
+        &mut [SLOT; 1],
+        &mut [RECORD; 1],
+        |set| two_wakes_run(&rt, set),
+    )
 }
 
 fn reused_slot_run(rt: &impl Abort, set: &mut FuturesUnorderedBounded<Task>) {
@@ -271,7 +286,11 @@ fn reused_slot_run(rt: &impl Abort, set: &mut FuturesUnorderedBounded<Task>) {
 
 #[test]
 fn reused_slot(rt: HostRuntime) {
-    on_a_set!(&rt, 1, 1, reused_slot_run)
+    on_a_set(
+        &mut [SLOT; 1],
+        &mut [RECORD; 1],
+        |set| reused_slot_run(&rt, set),
+    )
 }
 
 fn self_wake_run(rt: &impl Abort, set: &mut FuturesUnorderedBounded<Task>) {
@@ -281,7 +300,11 @@ fn self_wake_run(rt: &impl Abort, set: &mut FuturesUnorderedBounded<Task>) {
 
 #[test]
 fn self_wake(rt: HostRuntime) {
-    on_a_set!(&rt, 1, 1, self_wake_run)
+    on_a_set(
+        &mut [SLOT; 1],
+        &mut [RECORD; 1],
+        |set| self_wake_run(&rt, set),
+    )
 }
 
 fn last_vacated_run(rt: &impl Abort, set: &mut FuturesUnorderedBounded<Task>) {
@@ -296,7 +319,11 @@ fn last_vacated_run(rt: &impl Abort, set: &mut FuturesUnorderedBounded<Task>) {
 
 #[test]
 fn last_vacated(rt: HostRuntime) {
-    on_a_set!(&rt, 3, 3, last_vacated_run)
+    on_a_set(
+        &mut [SLOT; 3],
+        &mut [RECORD; 3],
+        |set| last_vacated_run(&rt, set),
+    )
 }
 
 fn no_token_out(rt: &impl Abort, set: &mut FuturesUnorderedBounded<Task>) {
@@ -377,7 +404,11 @@ fn refusals_run(rt: &impl Abort, set: &mut FuturesUnorderedBounded<Task>) {
 
 #[test]
 fn refusals(rt: HostRuntime) {
-    on_a_set!(&rt, 2, 2, refusals_run)
+    on_a_set(
+        &mut [SLOT; 2],
+        &mut [RECORD; 2],
+        |set| refusals_run(&rt, set),
+    )
 }
 
 fn hand_out_most(rt: &impl Abort, set: &mut FuturesUnorderedBounded<Task>) {
@@ -419,5 +450,9 @@ fn most_tokens_run(rt: &impl Abort, set: &mut FuturesUnorderedBounded<Task>) {
 
 #[test]
 fn most_tokens(rt: HostRuntime) {
-    on_a_set!(&rt, 2, 2, most_tokens_run)
+    on_a_set(
+        &mut [SLOT; 2],
+        &mut [RECORD; 2],
+        |set| most_tokens_run(&rt, set),
+    )
 }
