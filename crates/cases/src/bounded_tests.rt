@@ -136,59 +136,41 @@ fn on_a_set<R: FnOnce(&mut FuturesUnorderedBounded<'_, Task>)>(
     };
 }
 
-fn no_slot_run(rt: &impl Abort, set: &mut FuturesUnorderedBounded<Task>) {
-    assert_eq!(rt;
-        set.push(letter(1, 0)),
-        refused(Fault::NoVacantSlot { capacity: 0 }, letter(1, 0))
-    );
-    assert_eq!(rt; set.poll(&[]), none());
-}
-
 #[test]
 fn no_slot(rt: HostRuntime) {
-    on_a_set(
-        &mut [SLOT; 0],
-        &mut [RECORD; 0],
-        |set| no_slot_run(&rt, set),
-    )
-}
-
-fn two_slots_run(rt: &impl Abort, set: &mut FuturesUnorderedBounded<Task>) {
-    assert_eq!(rt; set.push(letter(1, 0)), Ok(0));
-    assert_eq!(rt; set.push(letter(2, 0)), Ok(1));
-    assert_eq!(rt;
-        set.push(letter(3, 0)),
-        refused(Fault::NoVacantSlot { capacity: 2 }, letter(3, 0))
-    );
-    assert_eq!(rt; set.len(), 2);
-    assert_eq!(rt; set.capacity(), 2);
+    on_a_set(&mut [SLOT; 0], &mut [RECORD; 0], |set| {
+        assert_eq!(rt;
+            set.push(letter(1, 0)),
+            refused(Fault::NoVacantSlot { capacity: 0 }, letter(1, 0))
+        );
+        assert_eq!(rt; set.poll(&[]), none());
+    })
 }
 
 #[test]
 fn two_slots(rt: HostRuntime) {
-    on_a_set(
-        &mut [SLOT; 2],
-        &mut [RECORD; 2],
-        |set| two_slots_run(&rt, set),
-    )
-}
-
-fn lesser_memory_run(rt: &impl Abort, set: &mut FuturesUnorderedBounded<Task>) {
-    assert_eq!(rt; set.push(letter(1, 0)), Ok(0));
-    assert_eq!(rt;
-        set.push(letter(2, 0)),
-        refused(Fault::NoVacantSlot { capacity: 1 }, letter(2, 0))
-    );
-    assert_eq!(rt; set.capacity(), 1);
+    on_a_set(&mut [SLOT; 2], &mut [RECORD; 2], |set| {
+        assert_eq!(rt; set.push(letter(1, 0)), Ok(0));
+        assert_eq!(rt; set.push(letter(2, 0)), Ok(1));
+        assert_eq!(rt;
+            set.push(letter(3, 0)),
+            refused(Fault::NoVacantSlot { capacity: 2 }, letter(3, 0))
+        );
+        assert_eq!(rt; set.len(), 2);
+        assert_eq!(rt; set.capacity(), 2);
+    })
 }
 
 #[test]
 fn lesser_memory(rt: HostRuntime) {
-    on_a_set(
-        &mut [SLOT; 3],
-        &mut [RECORD; 1],
-        |set| lesser_memory_run(&rt, set),
-    )
+    on_a_set(&mut [SLOT; 3], &mut [RECORD; 1], |set| {
+        assert_eq!(rt; set.push(letter(1, 0)), Ok(0));
+        assert_eq!(rt;
+            set.push(letter(2, 0)),
+            refused(Fault::NoVacantSlot { capacity: 1 }, letter(2, 0))
+        );
+        assert_eq!(rt; set.capacity(), 1);
+    })
 }
 
 fn push_letters(rt: &impl Abort, set: &mut FuturesUnorderedBounded<Task>, n: usize) {
@@ -197,133 +179,91 @@ fn push_letters(rt: &impl Abort, set: &mut FuturesUnorderedBounded<Task>, n: usi
     }
 }
 
-fn sixty_run(rt: &impl Abort, set: &mut FuturesUnorderedBounded<Task>) {
-    push_letters(rt, set, 60);
-    assert_eq!(rt; set.poll(&[]), pending(0, 60));
-}
-
 #[test]
 fn sixty(rt: HostRuntime) {
-    on_a_set(
-        &mut [SLOT; 61],
-        &mut [RECORD; 61],
-        |set| sixty_run(&rt, set),
-    )
-}
-
-fn sixty_two_run(rt: &impl Abort, set: &mut FuturesUnorderedBounded<Task>) {
-    push_letters(rt, set, 62);
-    assert_eq!(rt; set.poll(&[]), pending(1, 61));
-    assert_eq!(rt; hand(set, 0), Ok(raw(1, 0)));
-    assert_eq!(rt; wake(set, raw(1, 0)), Ok(1));
-    assert_eq!(rt; set.poll(&[]), pending(0, 2));
+    on_a_set(&mut [SLOT; 61], &mut [RECORD; 61], |set| {
+        push_letters(&rt, set, 60);
+        assert_eq!(rt; set.poll(&[]), pending(0, 60));
+    })
 }
 
 #[test]
 fn sixty_two(rt: HostRuntime) {
-    on_a_set(
-        &mut [SLOT; 62],
-        &mut [RECORD; 62],
-        |set| sixty_two_run(&rt, set),
-    )
-}
-
-fn sixty_one_run(rt: &impl Abort, set: &mut FuturesUnorderedBounded<Task>) {
-    push_letters(rt, set, 61);
-    assert_eq!(rt; set.poll(&[]), pending(1, 61));
+    on_a_set(&mut [SLOT; 62], &mut [RECORD; 62], |set| {
+        push_letters(&rt, set, 62);
+        assert_eq!(rt; set.poll(&[]), pending(1, 61));
+        assert_eq!(rt; hand(set, 0), Ok(raw(1, 0)));
+        assert_eq!(rt; wake(set, raw(1, 0)), Ok(1));
+        assert_eq!(rt; set.poll(&[]), pending(0, 2));
+    })
 }
 
 #[test]
 fn sixty_one(rt: HostRuntime) {
-    on_a_set(
-        &mut [SLOT; 61],
-        &mut [RECORD; 61],
-        |set| sixty_one_run(&rt, set),
-    )
-}
-
-fn two_wakes_run(rt: &impl Abort, set: &mut FuturesUnorderedBounded<Task>) {
-    assert_eq!(rt; set.push(letter(1, 0)), Ok(0));
-    assert_eq!(rt; set.poll(&[0]), pending(0, 1));
-    assert_eq!(rt; hand(set, 0), Ok(raw(1, 0)));
-    assert_eq!(rt; wake_by_ref(set, raw(1, 0)), Ok(1));
-    assert_eq!(rt; wake_by_ref(set, raw(1, 0)), Ok(0));
-    assert_eq!(rt; set.poll(&[0]), pending(0, 1));
-    assert_eq!(rt; set.poll(&[7]), pending(0, 0));
-    assert_eq!(rt; wake(set, raw(1, 0)), Ok(1));
-    assert_eq!(rt;
-        set.poll(&[7]),
-        ready(
-            Either::Right(Delivery {
-                ticket: (1, 0),
-                word: 7,
-            }),
-            0,
-            1,
-        )
-    );
-    assert_eq!(rt; set.may_end(), Ok(()));
+    on_a_set(&mut [SLOT; 61], &mut [RECORD; 61], |set| {
+        push_letters(&rt, set, 61);
+        assert_eq!(rt; set.poll(&[]), pending(1, 61));
+    })
 }
 
 #[test]
 fn two_wakes(rt: HostRuntime) {
-    on_a_set(
-        &mut [SLOT; 1],
-        &mut [RECORD; 1],
-        |set| two_wakes_run(&rt, set),
-    )
-}
-
-fn reused_slot_run(rt: &impl Abort, set: &mut FuturesUnorderedBounded<Task>) {
-    assert_eq!(rt; set.push(countdown(1, 0, false)), Ok(0));
-    assert_eq!(rt; hand(set, 0), Ok(raw(1, 0)));
-    assert_eq!(rt; set.poll(&[]), ready(Either::Left((1, 0)), 0, 1));
-    assert_eq!(rt; wake(set, raw(1, 0)), Ok(1));
-    assert_eq!(rt; set.push(countdown(2, 0, false)), Ok(0));
-    assert_eq!(rt; set.poll(&[]), ready(Either::Left((2, 0)), 0, 1));
-    assert_eq!(rt; set.poll(&[]), none());
+    on_a_set(&mut [SLOT; 1], &mut [RECORD; 1], |set| {
+        assert_eq!(rt; set.push(letter(1, 0)), Ok(0));
+        assert_eq!(rt; set.poll(&[0]), pending(0, 1));
+        assert_eq!(rt; hand(set, 0), Ok(raw(1, 0)));
+        assert_eq!(rt; wake_by_ref(set, raw(1, 0)), Ok(1));
+        assert_eq!(rt; wake_by_ref(set, raw(1, 0)), Ok(0));
+        assert_eq!(rt; set.poll(&[0]), pending(0, 1));
+        assert_eq!(rt; set.poll(&[7]), pending(0, 0));
+        assert_eq!(rt; wake(set, raw(1, 0)), Ok(1));
+        assert_eq!(rt;
+            set.poll(&[7]),
+            ready(
+                Either::Right(Delivery {
+                    ticket: (1, 0),
+                    word: 7,
+                }),
+                0,
+                1,
+            )
+        );
+        assert_eq!(rt; set.may_end(), Ok(()));
+    })
 }
 
 #[test]
 fn reused_slot(rt: HostRuntime) {
-    on_a_set(
-        &mut [SLOT; 1],
-        &mut [RECORD; 1],
-        |set| reused_slot_run(&rt, set),
-    )
-}
-
-fn self_wake_run(rt: &impl Abort, set: &mut FuturesUnorderedBounded<Task>) {
-    assert_eq!(rt; set.push(countdown(1, 2, true)), Ok(0));
-    assert_eq!(rt; set.poll(&[]), ready(Either::Left((1, 0)), 1, 3));
+    on_a_set(&mut [SLOT; 1], &mut [RECORD; 1], |set| {
+        assert_eq!(rt; set.push(countdown(1, 0, false)), Ok(0));
+        assert_eq!(rt; hand(set, 0), Ok(raw(1, 0)));
+        assert_eq!(rt; set.poll(&[]), ready(Either::Left((1, 0)), 0, 1));
+        assert_eq!(rt; wake(set, raw(1, 0)), Ok(1));
+        assert_eq!(rt; set.push(countdown(2, 0, false)), Ok(0));
+        assert_eq!(rt; set.poll(&[]), ready(Either::Left((2, 0)), 0, 1));
+        assert_eq!(rt; set.poll(&[]), none());
+    })
 }
 
 #[test]
 fn self_wake(rt: HostRuntime) {
-    on_a_set(
-        &mut [SLOT; 1],
-        &mut [RECORD; 1],
-        |set| self_wake_run(&rt, set),
-    )
-}
-
-fn last_vacated_run(rt: &impl Abort, set: &mut FuturesUnorderedBounded<Task>) {
-    assert_eq!(rt; set.push(countdown(1, 0, false)), Ok(0));
-    assert_eq!(rt; set.push(countdown(2, 0, false)), Ok(1));
-    assert_eq!(rt; set.poll(&[]), ready(Either::Left((1, 0)), 0, 1));
-    assert_eq!(rt; set.poll(&[]), ready(Either::Left((2, 0)), 0, 1));
-    assert_eq!(rt; set.push(countdown(3, 0, false)), Ok(1));
-    assert_eq!(rt; set.push(countdown(4, 0, false)), Ok(0));
-    assert_eq!(rt; set.push(countdown(5, 0, false)), Ok(2));
+    on_a_set(&mut [SLOT; 1], &mut [RECORD; 1], |set| {
+        assert_eq!(rt; set.push(countdown(1, 2, true)), Ok(0));
+        assert_eq!(rt; set.poll(&[]), ready(Either::Left((1, 0)), 1, 3));
+    })
 }
 
 #[test]
 fn last_vacated(rt: HostRuntime) {
-    on_a_set(
-        &mut [SLOT; 3],
-        &mut [RECORD; 3],
-        |set| last_vacated_run(&rt, set),
-    )
+    on_a_set(&mut [SLOT; 3], &mut [RECORD; 3], |set| {
+        assert_eq!(rt; set.push(countdown(1, 0, false)), Ok(0));
+        assert_eq!(rt; set.push(countdown(2, 0, false)), Ok(1));
+        assert_eq!(rt; set.poll(&[]), ready(Either::Left((1, 0)), 0, 1));
+        assert_eq!(rt; set.poll(&[]), ready(Either::Left((2, 0)), 0, 1));
+        assert_eq!(rt; set.push(countdown(3, 0, false)), Ok(1));
+        assert_eq!(rt; set.push(countdown(4, 0, false)), Ok(0));
+        assert_eq!(rt; set.push(countdown(5, 0, false)), Ok(2));
+    })
 }
 
 fn no_token_out(rt: &impl Abort, set: &mut FuturesUnorderedBounded<Task>) {
@@ -396,19 +336,13 @@ fn two_tokens_out(rt: &impl Abort, set: &mut FuturesUnorderedBounded<Task>) {
     assert_eq!(rt; set.len(), 1);
 }
 
-fn refusals_run(rt: &impl Abort, set: &mut FuturesUnorderedBounded<Task>) {
-    no_token_out(rt, set);
-    one_token_out(rt, set);
-    two_tokens_out(rt, set);
-}
-
 #[test]
 fn refusals(rt: HostRuntime) {
-    on_a_set(
-        &mut [SLOT; 2],
-        &mut [RECORD; 2],
-        |set| refusals_run(&rt, set),
-    )
+    on_a_set(&mut [SLOT; 2], &mut [RECORD; 2], |set| {
+        no_token_out(&rt, set);
+        one_token_out(&rt, set);
+        two_tokens_out(&rt, set);
+    })
 }
 
 fn hand_out_most(rt: &impl Abort, set: &mut FuturesUnorderedBounded<Task>) {
@@ -418,41 +352,35 @@ fn hand_out_most(rt: &impl Abort, set: &mut FuturesUnorderedBounded<Task>) {
     }
 }
 
-fn most_tokens_run(rt: &impl Abort, set: &mut FuturesUnorderedBounded<Task>) {
-    hand_out_most(rt, set);
-    assert_eq!(rt;
-        hand(set, 0),
-        Err(Refused {
-            fault: Fault::TooManyTokens { out: 65535 },
-            input: 0,
-        })
-    );
-    assert_eq!(rt;
-        hand(set, 1),
-        Err(Refused {
-            fault: Fault::NoSuchSlot { address: 1 },
-            input: 1,
-        })
-    );
-    assert_eq!(rt;
-        clone(set, raw(1, 0)),
-        Err(Fault::TooManyTokens { out: 65535 })
-    );
-    assert_eq!(rt;
-        clone(set, raw(1, 5)),
-        Err(Fault::NoSuchSlot { address: 5 })
-    );
-    assert_eq!(rt; clone(set, raw(2, 0)), Err(Fault::OtherName { name: 2 }));
-    assert_eq!(rt; spend(set, raw(1, 0)), Ok(()));
-    assert_eq!(rt; hand(set, 0), Ok(raw(1, 0)));
-    assert_eq!(rt; set.may_end(), Err(Fault::TokensOut { count: 65535 }));
-}
-
 #[test]
 fn most_tokens(rt: HostRuntime) {
-    on_a_set(
-        &mut [SLOT; 2],
-        &mut [RECORD; 2],
-        |set| most_tokens_run(&rt, set),
-    )
+    on_a_set(&mut [SLOT; 2], &mut [RECORD; 2], |set| {
+        hand_out_most(&rt, set);
+        assert_eq!(rt;
+            hand(set, 0),
+            Err(Refused {
+                fault: Fault::TooManyTokens { out: 65535 },
+                input: 0,
+            })
+        );
+        assert_eq!(rt;
+            hand(set, 1),
+            Err(Refused {
+                fault: Fault::NoSuchSlot { address: 1 },
+                input: 1,
+            })
+        );
+        assert_eq!(rt;
+            clone(set, raw(1, 0)),
+            Err(Fault::TooManyTokens { out: 65535 })
+        );
+        assert_eq!(rt;
+            clone(set, raw(1, 5)),
+            Err(Fault::NoSuchSlot { address: 5 })
+        );
+        assert_eq!(rt; clone(set, raw(2, 0)), Err(Fault::OtherName { name: 2 }));
+        assert_eq!(rt; spend(set, raw(1, 0)), Ok(()));
+        assert_eq!(rt; hand(set, 0), Ok(raw(1, 0)));
+        assert_eq!(rt; set.may_end(), Err(Fault::TokensOut { count: 65535 }));
+    })
 }
