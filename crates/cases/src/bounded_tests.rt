@@ -81,6 +81,16 @@ fn told(refusal: Refused<Waker>) -> Refused<RawWaker> {
     }
 }
 
+// Lends a token to a call. It is let go by its numbers afterwards, and stays out.
+fn lent<R, C: FnOnce(&Waker) -> R>(token: RawWaker, call: C) -> R
+    requires { C.IsAlwaysCallable call }
+{
+    let token = Waker::from_raw(token);
+    let answer = call(&token);
+    let _ = token.into_raw();
+    answer
+}
+
 // What a token call answers, as plain values: a token is told by its numbers.
 fn hand(
     set: &mut FuturesUnorderedBounded<Task>,
@@ -90,10 +100,7 @@ fn hand(
 }
 
 fn clone(set: &mut FuturesUnorderedBounded<Task>, token: RawWaker) -> Result<RawWaker, Fault> {
-    let brought = Waker::from_raw(token);
-    let answer = set.clone(&brought);
-    let _ = brought.into_raw();
-    answer.map(Waker::into_raw)
+    lent(token, |token| set.clone(token)).map(Waker::into_raw)
 }
 
 fn wake(
@@ -104,10 +111,7 @@ fn wake(
 }
 
 fn wake_by_ref(set: &mut FuturesUnorderedBounded<Task>, token: RawWaker) -> Result<u32, Fault> {
-    let brought = Waker::from_raw(token);
-    let answer = set.wake_by_ref(&brought);
-    let _ = brought.into_raw();
-    answer
+    lent(token, |token| set.wake_by_ref(token))
 }
 
 fn spend(
