@@ -72,124 +72,109 @@ fn raw(name: u32, address: usize) -> RawWaker {
     RawWaker { name, address }
 }
 
+// A refused token, told by its numbers.
+fn told(refusal: Refused<Waker>) -> Refused<RawWaker> {
+    let Refused { fault, input } = refusal;
+    Refused {
+        fault,
+        input: input.into_raw(),
+    }
+}
+
+// Lends a token to a call. It is let go by its numbers afterwards, and stays out.
+fn lent<R, C: FnOnce(&Waker) -> R>(token: RawWaker, call: C) -> R
+    requires { C.IsAlwaysCallable call }
+{
+    let token = Waker::from_raw(token);
+    let answer = call(&token);
+    let _ = token.into_raw();
+    answer
+}
+
 // What a token call answers, as plain values: a token is told by its numbers.
 fn hand(
     set: &mut FuturesUnorderedBounded<Task>,
     address: usize,
 ) -> Result<RawWaker, Refused<usize>> {
-    match set.hand(address) {
-        Ok(token) => Ok(token.into_raw()),
-        Err(refusal) => Err(refusal),
-    }
+    set.hand(address).map(Waker::into_raw)
 }
 
 fn clone(set: &mut FuturesUnorderedBounded<Task>, token: RawWaker) -> Result<RawWaker, Fault> {
-    let brought = Waker::from_raw(token);
-    let answer = set.clone(&brought);
-    let _ = brought.into_raw();
-    match answer {
-        Ok(token) => Ok(token.into_raw()),
-        Err(fault) => Err(fault),
-    }
+    lent(token, |token| set.clone(token)).map(Waker::into_raw)
 }
 
 fn wake(
     set: &mut FuturesUnorderedBounded<Task>,
     token: RawWaker,
 ) -> Result<u32, Refused<RawWaker>> {
-    match set.wake(Waker::from_raw(token)) {
-        Ok(notices) => Ok(notices),
-        Err(refusal) => {
-            let Refused { fault, input } = refusal;
-            Err(Refused {
-                fault,
-                input: input.into_raw(),
-            })
-        }
-    }
+    set.wake(Waker::from_raw(token)).map_err(told)
 }
 
 fn wake_by_ref(set: &mut FuturesUnorderedBounded<Task>, token: RawWaker) -> Result<u32, Fault> {
-    let brought = Waker::from_raw(token);
-    let answer = set.wake_by_ref(&brought);
-    let _ = brought.into_raw();
-    answer
+    lent(token, |token| set.wake_by_ref(token))
 }
 
 fn spend(
     set: &mut FuturesUnorderedBounded<Task>,
     token: RawWaker,
 ) -> Result<(), Refused<RawWaker>> {
-    match set.drop(Waker::from_raw(token)) {
-        Ok(()) => Ok(()),
-        Err(refusal) => {
-            let Refused { fault, input } = refusal;
-            Err(Refused {
-                fault,
-                input: input.into_raw(),
-            })
-        }
-    }
+    set.drop(Waker::from_raw(token)).map_err(told)
 }
 
-macro_rules! on_a_set {
-    ($rt:expr, $slots:expr, $records:expr, $run:ident) => {{
-        let mut slots = [SLOT; $slots];
-        let mut records = [RECORD; $records];
-        let mut set = FuturesUnorderedBounded::new(1, &mut slots, &mut records);
-        $run($rt, &mut set);
-        match set.take_apart() {
-            Ending::Ended(memory) => {
-                let Memory { slots: _, records: _ } = memory;
-            }
-            Ending::Refused(_, left) => {
-                let Memory { slots: _, records: _ } = left.abandon();
-            }
-        }
-    }};
-}
-
-fn no_slot_run(rt: &impl Abort, set: &mut FuturesUnorderedBounded<Task>) {
-    assert_eq!(rt;
-        set.push(letter(1, 0)),
-        refused(Fault::NoVacantSlot { capacity: 0 }, letter(1, 0))
-    );
-    assert_eq!(rt; set.poll(&[]), none());
+// Runs on a set of the name 1 in that memory, and takes it apart.
+fn on_a_set<R: FnOnce(&mut FuturesUnorderedBounded<'_, Task>)>(
+    slots: &mut [Slot<Task>],
+    records: &mut [WakeRecord],
+    run: R,
+)
+    requires { R.IsAlwaysCallable run }
+{
+    let mut set = FuturesUnorderedBounded::new(1, slots, records);
+    run(&mut set);
+    let Memory {
+        slots: _,
+        records: _,
+    } = match set.take_apart() {
+        Ending::Ended(memory) => memory,
+        Ending::Refused(_, left) => left.abandon(),
+    };
 }
 
 #[test]
 fn no_slot(rt: HostRuntime) {
-    on_a_set!(&rt, 0, 0, no_slot_run)
-}
-
-fn two_slots_run(rt: &impl Abort, set: &mut FuturesUnorderedBounded<Task>) {
-    assert_eq!(rt; set.push(letter(1, 0)), Ok(0));
-    assert_eq!(rt; set.push(letter(2, 0)), Ok(1));
-    assert_eq!(rt;
-        set.push(letter(3, 0)),
-        refused(Fault::NoVacantSlot { capacity: 2 }, letter(3, 0))
-    );
-    assert_eq!(rt; set.len(), 2);
-    assert_eq!(rt; set.capacity(), 2);
+    on_a_set(&mut [SLOT; 0], &mut [RECORD; 0], |set| {
+        assert_eq!(rt;
+            set.push(letter(1, 0)),
+            refused(Fault::NoVacantSlot { capacity: 0 }, letter(1, 0))
+        );
+        assert_eq!(rt; set.poll(&[]), none());
+    })
 }
 
 #[test]
 fn two_slots(rt: HostRuntime) {
-    on_a_set!(&rt, 2, 2, two_slots_run)
-}
-
-fn lesser_memory_run(rt: &impl Abort, set: &mut FuturesUnorderedBounded<Task>) {
-    assert_eq!(rt; set.push(letter(1, 0)), Ok(0));
-    assert_eq!(rt;
-        set.push(letter(2, 0)),
-        refused(Fault::NoVacantSlot { capacity: 1 }, letter(2, 0))
-    );
-    assert_eq!(rt; set.capacity(), 1);
+    on_a_set(&mut [SLOT; 2], &mut [RECORD; 2], |set| {
+        assert_eq!(rt; set.push(letter(1, 0)), Ok(0));
+        assert_eq!(rt; set.push(letter(2, 0)), Ok(1));
+        assert_eq!(rt;
+            set.push(letter(3, 0)),
+            refused(Fault::NoVacantSlot { capacity: 2 }, letter(3, 0))
+        );
+        assert_eq!(rt; set.len(), 2);
+        assert_eq!(rt; set.capacity(), 2);
+    })
 }
 
 #[test]
 fn lesser_memory(rt: HostRuntime) {
-    on_a_set!(&rt, 3, 1, lesser_memory_run)
+    on_a_set(&mut [SLOT; 3], &mut [RECORD; 1], |set| {
+        assert_eq!(rt; set.push(letter(1, 0)), Ok(0));
+        assert_eq!(rt;
+            set.push(letter(2, 0)),
+            refused(Fault::NoVacantSlot { capacity: 1 }, letter(2, 0))
+        );
+        assert_eq!(rt; set.capacity(), 1);
+    })
 }
 
 fn push_letters(rt: &impl Abort, set: &mut FuturesUnorderedBounded<Task>, n: usize) {
@@ -198,105 +183,91 @@ fn push_letters(rt: &impl Abort, set: &mut FuturesUnorderedBounded<Task>, n: usi
     }
 }
 
-fn sixty_run(rt: &impl Abort, set: &mut FuturesUnorderedBounded<Task>) {
-    push_letters(rt, set, 60);
-    assert_eq!(rt; set.poll(&[]), pending(0, 60));
-}
-
 #[test]
 fn sixty(rt: HostRuntime) {
-    on_a_set!(&rt, 61, 61, sixty_run)
-}
-
-fn sixty_two_run(rt: &impl Abort, set: &mut FuturesUnorderedBounded<Task>) {
-    push_letters(rt, set, 62);
-    assert_eq!(rt; set.poll(&[]), pending(1, 61));
-    assert_eq!(rt; hand(set, 0), Ok(raw(1, 0)));
-    assert_eq!(rt; wake(set, raw(1, 0)), Ok(1));
-    assert_eq!(rt; set.poll(&[]), pending(0, 2));
+    on_a_set(&mut [SLOT; 61], &mut [RECORD; 61], |set| {
+        push_letters(&rt, set, 60);
+        assert_eq!(rt; set.poll(&[]), pending(0, 60));
+    })
 }
 
 #[test]
 fn sixty_two(rt: HostRuntime) {
-    on_a_set!(&rt, 62, 62, sixty_two_run)
-}
-
-fn sixty_one_run(rt: &impl Abort, set: &mut FuturesUnorderedBounded<Task>) {
-    push_letters(rt, set, 61);
-    assert_eq!(rt; set.poll(&[]), pending(1, 61));
+    on_a_set(&mut [SLOT; 62], &mut [RECORD; 62], |set| {
+        push_letters(&rt, set, 62);
+        assert_eq!(rt; set.poll(&[]), pending(1, 61));
+        assert_eq!(rt; hand(set, 0), Ok(raw(1, 0)));
+        assert_eq!(rt; wake(set, raw(1, 0)), Ok(1));
+        assert_eq!(rt; set.poll(&[]), pending(0, 2));
+    })
 }
 
 #[test]
 fn sixty_one(rt: HostRuntime) {
-    on_a_set!(&rt, 61, 61, sixty_one_run)
-}
-
-fn two_wakes_run(rt: &impl Abort, set: &mut FuturesUnorderedBounded<Task>) {
-    assert_eq!(rt; set.push(letter(1, 0)), Ok(0));
-    assert_eq!(rt; set.poll(&[0]), pending(0, 1));
-    assert_eq!(rt; hand(set, 0), Ok(raw(1, 0)));
-    assert_eq!(rt; wake_by_ref(set, raw(1, 0)), Ok(1));
-    assert_eq!(rt; wake_by_ref(set, raw(1, 0)), Ok(0));
-    assert_eq!(rt; set.poll(&[0]), pending(0, 1));
-    assert_eq!(rt; set.poll(&[7]), pending(0, 0));
-    assert_eq!(rt; wake(set, raw(1, 0)), Ok(1));
-    assert_eq!(rt;
-        set.poll(&[7]),
-        ready(
-            Either::Right(Delivery {
-                ticket: (1, 0),
-                word: 7,
-            }),
-            0,
-            1,
-        )
-    );
-    assert_eq!(rt; set.may_end(), Ok(()));
+    on_a_set(&mut [SLOT; 61], &mut [RECORD; 61], |set| {
+        push_letters(&rt, set, 61);
+        assert_eq!(rt; set.poll(&[]), pending(1, 61));
+    })
 }
 
 #[test]
 fn two_wakes(rt: HostRuntime) {
-    on_a_set!(&rt, 1, 1, two_wakes_run)
-}
-
-fn reused_slot_run(rt: &impl Abort, set: &mut FuturesUnorderedBounded<Task>) {
-    assert_eq!(rt; set.push(countdown(1, 0, false)), Ok(0));
-    assert_eq!(rt; hand(set, 0), Ok(raw(1, 0)));
-    assert_eq!(rt; set.poll(&[]), ready(Either::Left((1, 0)), 0, 1));
-    assert_eq!(rt; wake(set, raw(1, 0)), Ok(1));
-    assert_eq!(rt; set.push(countdown(2, 0, false)), Ok(0));
-    assert_eq!(rt; set.poll(&[]), ready(Either::Left((2, 0)), 0, 1));
-    assert_eq!(rt; set.poll(&[]), none());
+    on_a_set(&mut [SLOT; 1], &mut [RECORD; 1], |set| {
+        assert_eq!(rt; set.push(letter(1, 0)), Ok(0));
+        assert_eq!(rt; set.poll(&[0]), pending(0, 1));
+        assert_eq!(rt; hand(set, 0), Ok(raw(1, 0)));
+        assert_eq!(rt; wake_by_ref(set, raw(1, 0)), Ok(1));
+        assert_eq!(rt; wake_by_ref(set, raw(1, 0)), Ok(0));
+        assert_eq!(rt; set.poll(&[0]), pending(0, 1));
+        assert_eq!(rt; set.poll(&[7]), pending(0, 0));
+        assert_eq!(rt; wake(set, raw(1, 0)), Ok(1));
+        assert_eq!(rt;
+            set.poll(&[7]),
+            ready(
+                Either::Right(Delivery {
+                    ticket: (1, 0),
+                    word: 7,
+                }),
+                0,
+                1,
+            )
+        );
+        assert_eq!(rt; set.may_end(), Ok(()));
+    })
 }
 
 #[test]
 fn reused_slot(rt: HostRuntime) {
-    on_a_set!(&rt, 1, 1, reused_slot_run)
-}
-
-fn self_wake_run(rt: &impl Abort, set: &mut FuturesUnorderedBounded<Task>) {
-    assert_eq!(rt; set.push(countdown(1, 2, true)), Ok(0));
-    assert_eq!(rt; set.poll(&[]), ready(Either::Left((1, 0)), 1, 3));
+    on_a_set(&mut [SLOT; 1], &mut [RECORD; 1], |set| {
+        assert_eq!(rt; set.push(countdown(1, 0, false)), Ok(0));
+        assert_eq!(rt; hand(set, 0), Ok(raw(1, 0)));
+        assert_eq!(rt; set.poll(&[]), ready(Either::Left((1, 0)), 0, 1));
+        assert_eq!(rt; wake(set, raw(1, 0)), Ok(1));
+        assert_eq!(rt; set.push(countdown(2, 0, false)), Ok(0));
+        assert_eq!(rt; set.poll(&[]), ready(Either::Left((2, 0)), 0, 1));
+        assert_eq!(rt; set.poll(&[]), none());
+    })
 }
 
 #[test]
 fn self_wake(rt: HostRuntime) {
-    on_a_set!(&rt, 1, 1, self_wake_run)
-}
-
-fn last_vacated_run(rt: &impl Abort, set: &mut FuturesUnorderedBounded<Task>) {
-    assert_eq!(rt; set.push(countdown(1, 0, false)), Ok(0));
-    assert_eq!(rt; set.push(countdown(2, 0, false)), Ok(1));
-    assert_eq!(rt; set.poll(&[]), ready(Either::Left((1, 0)), 0, 1));
-    assert_eq!(rt; set.poll(&[]), ready(Either::Left((2, 0)), 0, 1));
-    assert_eq!(rt; set.push(countdown(3, 0, false)), Ok(1));
-    assert_eq!(rt; set.push(countdown(4, 0, false)), Ok(0));
-    assert_eq!(rt; set.push(countdown(5, 0, false)), Ok(2));
+    on_a_set(&mut [SLOT; 1], &mut [RECORD; 1], |set| {
+        assert_eq!(rt; set.push(countdown(1, 2, true)), Ok(0));
+        assert_eq!(rt; set.poll(&[]), ready(Either::Left((1, 0)), 1, 3));
+    })
 }
 
 #[test]
 fn last_vacated(rt: HostRuntime) {
-    on_a_set!(&rt, 3, 3, last_vacated_run)
+    on_a_set(&mut [SLOT; 3], &mut [RECORD; 3], |set| {
+        assert_eq!(rt; set.push(countdown(1, 0, false)), Ok(0));
+        assert_eq!(rt; set.push(countdown(2, 0, false)), Ok(1));
+        assert_eq!(rt; set.poll(&[]), ready(Either::Left((1, 0)), 0, 1));
+        assert_eq!(rt; set.poll(&[]), ready(Either::Left((2, 0)), 0, 1));
+        assert_eq!(rt; set.push(countdown(3, 0, false)), Ok(1));
+        assert_eq!(rt; set.push(countdown(4, 0, false)), Ok(0));
+        assert_eq!(rt; set.push(countdown(5, 0, false)), Ok(2));
+    })
 }
 
 fn no_token_out(rt: &impl Abort, set: &mut FuturesUnorderedBounded<Task>) {
@@ -369,15 +340,13 @@ fn two_tokens_out(rt: &impl Abort, set: &mut FuturesUnorderedBounded<Task>) {
     assert_eq!(rt; set.len(), 1);
 }
 
-fn refusals_run(rt: &impl Abort, set: &mut FuturesUnorderedBounded<Task>) {
-    no_token_out(rt, set);
-    one_token_out(rt, set);
-    two_tokens_out(rt, set);
-}
-
 #[test]
 fn refusals(rt: HostRuntime) {
-    on_a_set!(&rt, 2, 2, refusals_run)
+    on_a_set(&mut [SLOT; 2], &mut [RECORD; 2], |set| {
+        no_token_out(&rt, set);
+        one_token_out(&rt, set);
+        two_tokens_out(&rt, set);
+    })
 }
 
 fn hand_out_most(rt: &impl Abort, set: &mut FuturesUnorderedBounded<Task>) {
@@ -387,37 +356,35 @@ fn hand_out_most(rt: &impl Abort, set: &mut FuturesUnorderedBounded<Task>) {
     }
 }
 
-fn most_tokens_run(rt: &impl Abort, set: &mut FuturesUnorderedBounded<Task>) {
-    hand_out_most(rt, set);
-    assert_eq!(rt;
-        hand(set, 0),
-        Err(Refused {
-            fault: Fault::TooManyTokens { out: 65535 },
-            input: 0,
-        })
-    );
-    assert_eq!(rt;
-        hand(set, 1),
-        Err(Refused {
-            fault: Fault::NoSuchSlot { address: 1 },
-            input: 1,
-        })
-    );
-    assert_eq!(rt;
-        clone(set, raw(1, 0)),
-        Err(Fault::TooManyTokens { out: 65535 })
-    );
-    assert_eq!(rt;
-        clone(set, raw(1, 5)),
-        Err(Fault::NoSuchSlot { address: 5 })
-    );
-    assert_eq!(rt; clone(set, raw(2, 0)), Err(Fault::OtherName { name: 2 }));
-    assert_eq!(rt; spend(set, raw(1, 0)), Ok(()));
-    assert_eq!(rt; hand(set, 0), Ok(raw(1, 0)));
-    assert_eq!(rt; set.may_end(), Err(Fault::TokensOut { count: 65535 }));
-}
-
 #[test]
 fn most_tokens(rt: HostRuntime) {
-    on_a_set!(&rt, 2, 2, most_tokens_run)
+    on_a_set(&mut [SLOT; 2], &mut [RECORD; 2], |set| {
+        hand_out_most(&rt, set);
+        assert_eq!(rt;
+            hand(set, 0),
+            Err(Refused {
+                fault: Fault::TooManyTokens { out: 65535 },
+                input: 0,
+            })
+        );
+        assert_eq!(rt;
+            hand(set, 1),
+            Err(Refused {
+                fault: Fault::NoSuchSlot { address: 1 },
+                input: 1,
+            })
+        );
+        assert_eq!(rt;
+            clone(set, raw(1, 0)),
+            Err(Fault::TooManyTokens { out: 65535 })
+        );
+        assert_eq!(rt;
+            clone(set, raw(1, 5)),
+            Err(Fault::NoSuchSlot { address: 5 })
+        );
+        assert_eq!(rt; clone(set, raw(2, 0)), Err(Fault::OtherName { name: 2 }));
+        assert_eq!(rt; spend(set, raw(1, 0)), Ok(()));
+        assert_eq!(rt; hand(set, 0), Ok(raw(1, 0)));
+        assert_eq!(rt; set.may_end(), Err(Fault::TokensOut { count: 65535 }));
+    })
 }

@@ -1,6 +1,6 @@
 // The day's script: one command to a line.
-ghost use Rattle.std.specs.Prelude.{◌<◌, ◌≤◌, IfSome};
-ghost use Rattle.gateway.specs.Script.{Good};
+ghost use Rattle.std.specs.Prelude.{◌≡◌, ◌<◌, ◌≤◌, IfSome};
+ghost use Rattle.gateway.specs.Script.{Good, silent};
 
 use tasks::letter::Letter;
 
@@ -11,7 +11,7 @@ pub const PLACES: usize = 64;
 const MOST_SLOTS: u64 = 65535;
 
 // What the desk posts itself where no reply came. No reply can be this word.
-pub const NO_ANSWER: u64 = 18446744073709551615;
+pub const NO_ANSWER: u64 = u64::MAX;
 
 #[derive(Clone, Copy)]
 pub enum Command {
@@ -24,11 +24,11 @@ pub enum Command {
 }
 
 // Whether a line says nothing: it is blank, or a comment.
-pub fn is_silent(line: &str) -> bool {
-    match line.split_whitespace().next() {
-        Some(word) => word.starts_with('#'),
-        None => true,
-    }
+pub fn is_silent(line: &str) -> bool
+    ensures { result ≡ silent line.now }
+{
+    let text = line.trim_start();
+    text.is_empty() || text.starts_with('#')
 }
 
 fn small(word: Option<&str>) -> Option<u32> {
@@ -39,8 +39,7 @@ fn small(word: Option<&str>) -> Option<u32> {
 fn bounded(word: Option<&str>, most: u64) -> Option<u64>
     ensures { IfSome result (λ n. n ≤ most) }
 {
-    let n = word?.parse::<u64>().ok()?;
-    if n <= most { Some(n) } else { None }
+    word?.parse::<u64>().ok().filter(|n| *n <= most)
 }
 
 fn place(word: Option<&str>) -> Option<u64>
@@ -53,8 +52,7 @@ fn place(word: Option<&str>) -> Option<u64>
 fn reply_word(word: Option<&str>) -> Option<u64>
     ensures { IfSome result (λ n. (0 < n) × (n < 18446744073709551615)) }
 {
-    let n = bounded(word, NO_ANSWER - 1)?;
-    if n == 0 { None } else { Some(n) }
+    bounded(word, NO_ANSWER - 1).filter(|n| *n != 0)
 }
 
 // The command of a line, where it can be read.
@@ -89,10 +87,7 @@ pub fn parse(line: &str) -> Option<Command>
         "end" => Command::End,
         _ => return None,
     };
-    match words.next() {
-        Some(_) => None,
-        None => Some(command),
-    }
+    words.next().is_none().then_some(command)
 }
 
 // How the desk begins: the set's name, its slots, and how many lines of the script are done with.
@@ -103,21 +98,33 @@ pub struct Opening {
     pub lines: usize,
 }
 
+// Where no good `open` comes first.
+impl Default for Opening {
+    ghost is_default = { λ o. o ≡ record { name = 1; slots = 8; lines = 0 } };
+
+    fn default() -> Opening {
+        Opening {
+            name: 1,
+            slots: 8,
+            lines: 0,
+        }
+    }
+}
+
 // The opening that the first command asks for, where it is a good `open`.
 pub fn first_opening(lines: &[String]) -> Option<Opening>
     ensures { IfSome result (λ o. o.slots ≤ 65535) }
 {
-    for (at, line) in lines.iter().enumerate() {
-        if !is_silent(line.as_str()) {
-            return match parse(line.as_str()) {
-                Some(Command::Open { name, slots }) => Some(Opening {
-                    name,
-                    slots,
-                    lines: at.saturating_add(1),
-                }),
-                _ => None,
-            };
-        }
-    }
-    None
+    let (at, line) = lines
+        .iter()
+        .enumerate()
+        .find(|(_, line)| !is_silent(line.as_str()))?;
+    let Command::Open { name, slots } = parse(line.as_str())? else {
+        return None;
+    };
+    Some(Opening {
+        name,
+        slots,
+        lines: at.saturating_add(1),
+    })
 }
