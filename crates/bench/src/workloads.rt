@@ -1,6 +1,4 @@
 use sets::futures_unordered_bounded::FuturesUnorderedBounded;
-use sets::futures_unordered_bounded::ending::Ending;
-use sets::memory::Memory;
 use slots::slot::Slot;
 use std::alloc::{AllocError, Global};
 use tasks::countdown::Countdown;
@@ -9,11 +7,6 @@ use tasks::letter::Letter;
 use tasks::poll::Poll;
 use wakes::wake_record::WakeRecord;
 use wakes::waker::{RawWaker, Waker};
-
-const RECORD: WakeRecord = WakeRecord {
-    queued: false,
-    next: 0,
-};
 
 // Runs a workload on a set of that capacity, in memory that is made for it and freed again.
 pub(crate) fn on_a_set<F: Future + Copy, R, W: FnOnce(&mut FuturesUnorderedBounded<'_, F>) -> R>(
@@ -24,17 +17,11 @@ pub(crate) fn on_a_set<F: Future + Copy, R, W: FnOnce(&mut FuturesUnorderedBound
     requires { W.IsAlwaysCallable workload }
 {
     // The records come first: with the slots first, filling and draining took a tenth longer.
-    let mut records = vec![in heap; RECORD; capacity as usize]?;
+    let mut records = vec![in heap; WakeRecord::default(); capacity as usize]?;
     let mut slots: Vec<Slot<F>> = vec![in heap; Slot::NextFree(0); capacity as usize]?;
     let mut set = FuturesUnorderedBounded::new(1, slots.as_mut_slice(), records.as_mut_slice());
     let answer = workload(&mut set);
-    let Memory {
-        slots: _,
-        records: _,
-    } = match set.take_apart() {
-        Ending::Ended(memory) => memory,
-        Ending::Refused(_, left) => left.abandon(),
-    };
+    let _ = set.abandon();
     Ok(answer)
 }
 

@@ -1,7 +1,5 @@
 // The worked runs once more, on the code.
 use sets::futures_unordered_bounded::FuturesUnorderedBounded;
-use sets::futures_unordered_bounded::ending::Ending;
-use sets::memory::Memory;
 use slots::slot::Slot;
 use std::process::Abort;
 use tasks::countdown::Countdown;
@@ -74,11 +72,7 @@ fn raw(name: u32, address: usize) -> RawWaker {
 
 // A refused token, told by its numbers.
 fn told(refusal: Refused<Waker>) -> Refused<RawWaker> {
-    let Refused { fault, input } = refusal;
-    Refused {
-        fault,
-        input: input.into_raw(),
-    }
+    refusal.map(Waker::into_raw)
 }
 
 // Lends a token to a call. It is let go by its numbers afterwards, and stays out.
@@ -131,13 +125,9 @@ fn on_a_set<R: FnOnce(&mut FuturesUnorderedBounded<'_, Task>)>(
 {
     let mut set = FuturesUnorderedBounded::new(1, slots, records);
     run(&mut set);
-    let Memory {
-        slots: _,
-        records: _,
-    } = match set.take_apart() {
-        Ending::Ended(memory) => memory,
-        Ending::Refused(_, left) => left.abandon(),
-    };
+    let _ = set
+        .take_apart()
+        .unwrap_or_else(|refused| refused.input.abandon());
 }
 
 #[test]

@@ -9,12 +9,10 @@ ghost use Rattle.tasks.specs.Kinds.{word_at, letter_acts};
 use crate::script;
 use crate::script::{Command, Opening};
 use sets::futures_unordered_bounded::FuturesUnorderedBounded;
-use sets::futures_unordered_bounded::ending::Ending;
-use sets::memory::Memory;
 use slots::slot::Slot;
 use std::alloc::Global;
-use std::{fmt, io};
-use tasks::fault::{Fault, Refused};
+use std::io;
+use tasks::fault::Refused;
 use tasks::future::Future;
 use tasks::letter::{Delivery, Letter};
 use tasks::poll::{Poll, Polled};
@@ -48,19 +46,6 @@ struct Book {
 struct Desk<'a> {
     set: Orders<'a>,
     book: Book,
-}
-
-// A fault as the desk prints it.
-#[derive(Drop)]
-struct Shown(Fault);
-
-impl fmt::Display for Shown {
-    fn fmt<W: fmt::Write>(&self, f: &mut fmt::Formatter<W>) -> fmt::Result {
-        let number = self.0.number();
-        let layer = self.0.layer();
-        let place = self.0.place();
-        write!(f, "fault {number}, layer {layer}, place {place}")
-    }
 }
 
 // Takes out the first order of which that is true.
@@ -102,7 +87,7 @@ fn put(post: &mut Vec<u64>, place: u64, word: u64)
 fn given_back(rt: &HostRuntime, refused: Refused<Waker>) -> io::Result<()> {
     let Refused { fault, input } = refused;
     let RawWaker { address, .. } = input.into_raw();
-    println!(rt; "token of address {address} refused: {}", Shown(fault))
+    println!(rt; "token of address {address} refused: {fault}")
 }
 
 // Prints what a poll answered.
@@ -165,7 +150,7 @@ impl Desk<'_> {
                 Ok(())
             }
             Err(Refused { fault, .. }) => {
-                println!(rt; "no token for address {address}: {}", Shown(fault))
+                println!(rt; "no token for address {address}: {fault}")
             }
         }
     }
@@ -182,8 +167,7 @@ impl Desk<'_> {
             Err(Refused { fault, input }) => {
                 let (owner, own_number) = input.ticket;
                 println!(rt;
-                    "order {client}/{number} refused: {}; ticket {owner}/{own_number} handed back",
-                    Shown(fault)
+                    "order {client}/{number} refused: {fault}; ticket {owner}/{own_number} handed back"
                 )
             }
         }
@@ -283,7 +267,7 @@ impl Desk<'_> {
             self.drop_token(rt, order.raw)?;
         }
         if let Err(fault) = self.set.may_end() {
-            println!(rt; "the set may not end: {}", Shown(fault))?;
+            println!(rt; "the set may not end: {fault}")?;
         }
         Ok(())
     }
@@ -347,24 +331,13 @@ fn opened(rt: &HostRuntime, lines: &[String]) -> io::Result<Opening> {
     }
 }
 
-// The memory of a set, and the fault where tokens were out.
-fn taken_apart<'a>(set: Orders<'a>) -> (Memory<'a, Letter>, Option<Fault>) {
-    match set.take_apart() {
-        Ending::Ended(memory) => (memory, None),
-        Ending::Refused(fault, unended) => (unended.abandon(), Some(fault)),
-    }
-}
-
 // Reads the script, and runs its day on one set. Where printing failed, tokens can be out at the end.
 pub fn run(rt: &HostRuntime) -> io::Result<()> {
     let heap = rt.alloc();
     let lines = read(rt)?;
     let opening = opened(rt, lines.as_slice())?;
     let mut slots: Vec<Slot<Letter>> = vec![in heap; Slot::NextFree(0); opening.slots]?;
-    let mut records = vec![in heap; WakeRecord {
-        queued: false,
-        next: 0
-    }; opening.slots]?;
+    let mut records = vec![in heap; WakeRecord::default(); opening.slots]?;
     let book = Book::new(heap)?;
     let set = FuturesUnorderedBounded::new(
         opening.name,
@@ -374,14 +347,12 @@ pub fn run(rt: &HostRuntime) -> io::Result<()> {
     let mut desk = Desk { set, book };
     let outcome = desk.day(rt, lines.as_slice(), opening.lines);
     let Desk { set, book: _ } = desk;
-    let (memory, fault) = taken_apart(set);
-    let Memory {
-        slots: _,
-        records: _,
-    } = memory;
-    match fault {
-        None => println!(rt; "set taken apart")?,
-        Some(fault) => println!(rt; "set abandoned: {}", Shown(fault))?,
+    match set.take_apart() {
+        Ok(_) => println!(rt; "set taken apart")?,
+        Err(Refused { fault, input }) => {
+            let _ = input.abandon();
+            println!(rt; "set abandoned: {fault}")?;
+        }
     }
     outcome
 }
