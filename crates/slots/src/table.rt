@@ -32,12 +32,11 @@ pub fn insert_in<F: Copy>(slots: &mut [Slot<F>], key: usize, task: F) -> usize
 
 // The number that a vacant slot holds.
 fn next_in<F: Copy>(slots: &[Slot<F>], key: usize) -> usize
-    requires { key < length slots.now }
     ensures { result ≡ next_link (slice_get slots.now key) }
 {
-    match slots[key] {
-        Slot::NextFree(next) => next,
-        Slot::Occupied(_) => 0,
+    match slots.get(key) {
+        Some(Slot::NextFree(next)) => *next,
+        _ => 0,
     }
 }
 
