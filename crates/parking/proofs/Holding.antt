@@ -1,9 +1,9 @@
 -- Places that all hold an entry, as they are shuffled, and as one is added or taken away.
-use Rattle.std.proofs.Common.{◌≡◌, ℕ, ◌<◌, ◌≤◌, List, [], ◌∷◌, ◌++◌, map, length, Some, None, Option, sym, refl, ap, ◌∙◌, subst, arith}
+use Rattle.std.proofs.Common.{◌≡◌, ℕ, ◌<◌, ◌≤◌, List, [], ◌∷◌, ◌++◌, map, length, take, Some, None, Option, sym, refl, ap, ◌∙◌, subst, arith}
 use Rattle.parking.proofs.Moves.{exchanged_alike}
 use Rattle.parking.proofs.Ranks.{map_exchanged}
 use Rattle.parking.specs.Places.{entries_in}
-use Rattle.std.proofs.lemmas.List.{length-map, map-append}
+use Rattle.std.proofs.lemmas.List.{length-map, map-append, take-map}
 use Rattle.std.proofs.lemmas.List.Sorted.{IsPermutation-refl, IsPermutation-trans, IsPermutation-swap, IsPermutation-keeps}
 use Rattle.std.specs.List.Sorted.{IsPermutation}
 use Rattle.std.specs.List.{swap}
@@ -25,6 +25,10 @@ module _ {E : Type 0} where
   hold_from es ps is =
       let e : entries_in ps ≡ es = ap entries_in is ∙ entries_held es in
       (ap held e ∙ sym is, e)
+
+  -- the first of them
+  pub hold_taken : (k : ℕ) (ps : List (Option E)) → AllHold ps → AllHold (take k ps)
+  hold_taken k ps h = (hold_from (take k (entries_in ps)) (take k ps) (ap (λ l. take k l) (sym h) ∙ take-map (λ e. Some e) k (entries_in ps))).0
 
   pub length_held : (ps : List (Option E)) → AllHold ps → length (entries_in ps) ≡ length ps
   length_held ps h = sym (length-map (entries_in ps) (λ e. Some e)) ∙ ap length h
