@@ -22,7 +22,7 @@ module _ {O : Type 0} where
       → MatchOption r (AllWithin (λ p. place_rank index_of p ≡ suc i → ⊥) ps 0 (length ps)) (λ k. (k < length ps) × HoldsAt (λ p. place_rank index_of p ≡ suc i) ps k × AllWithin (λ p. place_rank index_of p ≡ suc i → ⊥) ps 0 k)
       → FoundAt ps i r
   found_at ps i None none = λ k lt e. none k None (omega arith) lt (sym (get_or-map (place_rank index_of) ps k None 0 lt) ∙ e)
-  found_at ps i (Some k) some = (some.0, get_or-map (place_rank index_of) ps k None 0 some.0 ∙ some.1.0 None)
+  found_at ps i (Some k) some = (some.0, get_or-map (place_rank index_of) ps k None 0 some.0 ∙ some.1 None)
 
   -- the first place was read
   pub first_read : (ps : List (Option (OrderWrapper O))) (w : OrderWrapper O) → slice_get ps 0 ≡ Some (Some w) → rank_at (place_rank index_of) ps 0 ≡ suc w.index

@@ -63,8 +63,7 @@ pub fn put_in_order<T: Rank + Copy>(entries: &mut [T])
     ensures order { Heaped T.Rank.rank entries.new }
     ensures same { IsPermutation entries.old entries.new }
 {
-    let n = entries.len();
-    for i in 0..n {
+    for i in 0..entries.len() {
         sift_up(entries, i);
     }
 }

@@ -15,12 +15,10 @@ impl<E: Rank> Rank for Option<E> {
     ghost rank = { place_rank E.Rank.rank };
 
     fn is_below(&self, other: &Option<E>) -> bool {
-        match self {
-            None => other.is_some(),
-            Some(a) => match other {
-                None => false,
-                Some(b) => a.is_below(b),
-            },
+        match (self, other) {
+            (Some(a), Some(b)) => a.is_below(b),
+            (None, Some(_)) => true,
+            (_, None) => false,
         }
     }
 }
