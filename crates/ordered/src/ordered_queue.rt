@@ -98,7 +98,7 @@ impl<S: TaskSet, P: Parking<Output = S::Output>> OrderedQueue<S, P> {
         ensures low { top_bit self.new.next_outgoing_index ≡ false }
     {
         if self.next_outgoing_index >= MSB {
-            self.queued_outputs.flip();
+            let _ = self.queued_outputs.flip();
             self.in_progress_queue.flip();
             self.next_outgoing_index = flip(self.next_outgoing_index);
             self.next_incoming_index = flip(self.next_incoming_index);

@@ -1,6 +1,5 @@
 -- Places that all hold an entry, as they are shuffled, and as one is added or taken away.
 use Rattle.std.proofs.Common.{◌≡◌, ℕ, ◌<◌, ◌≤◌, List, [], ◌∷◌, ◌++◌, map, length, take, Some, None, Option, sym, refl, ap, ◌∙◌, subst, arith}
-use Rattle.parking.proofs.Moves.{exchanged_alike}
 use Rattle.parking.proofs.Ranks.{map_exchanged}
 use Rattle.parking.specs.Places.{entries_in}
 use Rattle.std.proofs.lemmas.List.{length-map, map-append, take-map}
@@ -62,10 +61,10 @@ module _ {E : Type 0} where
       let ia : i < length es = omega (arith, n, a) in
       let jb : j < length es = omega (arith, n, b) in
       let is : swap l i j ≡ held (swap es i j)
-      = ap (λ ps. swap ps i j) (sym was.0) ∙ exchanged_alike (held es) i j ∙ sym (map_exchanged (λ e. Some e) es i j ia jb) in
+      = ap (λ ps. swap ps i j) (sym was.0) ∙ sym (map_exchanged (λ e. Some e) es i j ia jb) in
       let now = hold_from (swap es i j) (swap l i j) is in (
         now.0,
-        subst (λ fs. IsPermutation (entries_in xs) fs) (sym now.1) (IsPermutation-trans (entries_in xs) es (swap es i j) was.1 (IsPermutation-swap es (swap es i j) i j ia jb (exchanged_alike es i j))),
+        subst (λ fs. IsPermutation (entries_in xs) fs) (sym now.1) (IsPermutation-trans (entries_in xs) es (swap es i j) was.1 (IsPermutation-swap es (swap es i j) i j ia jb refl)),
       )
 
   -- places that are shuffled

@@ -1,7 +1,7 @@
 -- Pairs in a heap: the one with an index is taken out, and all are flipped.
 use Rattle.std.proofs.Common.{◌≡◌, ℕ, suc, ◌<◌, ◌≤◌, Bool, false, cond, eqb, List, [], ◌∷◌, map, length, take, Some, None, count_by, Option, sym, refl, ap, ◌∙◌, subst, arith}
 use Rattle.parking.proofs.HeapParts.{Part, part}
-use Rattle.parking.proofs.Holding.{AllHold, hold_all, hold_shuffled, hold_from, length_held}
+use Rattle.parking.proofs.Holding.{hold_all, hold_shuffled, hold_from, length_held}
 use Rattle.parking.specs.Bags.{bears_index, Taken}
 use Rattle.parking.specs.Heaps.{rank_at}
 use Rattle.parking.specs.Places.{place_rank, index_of, entries_in, Filled, FoundAt, Gave}

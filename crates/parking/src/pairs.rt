@@ -18,7 +18,9 @@ pub fn find_in<O: Copy>(places: &[Option<OrderWrapper<O>>], index: u64) -> Optio
             return None;
         }
     }
-    places.iter().position(|place| place.is_some_and(|pair| pair.index == index))
+    places
+        .iter()
+        .position(|place| place.is_some_and(|pair| pair.index == index))
 }
 
 // Flips the top bit of every index, and puts the pairs in order again.

@@ -3,7 +3,8 @@ ghost use Rattle.parking.specs.Places.{place_rank};
 
 use tasks::order_wrapper::OrderWrapper;
 
-// A value that has a rank. Two values may have the same.
+// A value that has a rank. Two values may have the same. `Ord` is no plainer: outputs need not be comparable, and by its
+// laws two values that tie would be equal.
 pub trait Rank {
     ghost rank: { Self → ℕ };
 

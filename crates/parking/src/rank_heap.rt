@@ -13,6 +13,7 @@ const MOST_PLACES: usize = 65536;
 
 // A heap of entries in the first places of the caller's memory; the entry that ranks least is in front. Its places lie in
 // the memory and are at most 65,536, no more are used than there are, and those used hold an entry each and are in order.
+// Nothing is allocated, so the numbers of places and of entries stand beside the memory.
 pub struct RankHeap<'a, E: Rank> {
     memory: &'a mut [Option<E>],
     places: usize,

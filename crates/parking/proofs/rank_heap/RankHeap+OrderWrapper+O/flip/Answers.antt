@@ -1,5 +1,5 @@
-use Rattle.std.proofs.Common.{◌≡◌, ◌≤◌, List, ◌++◌, drop, map, length, take, Option, sym, ap, subst}
-use Rattle.parking.proofs.PairsHeld.{FlippedIn, flipped_in}
+use Rattle.std.proofs.Common.{◌≤◌, List, ◌++◌, drop, map, take, Option, sym, ap, subst}
+use Rattle.parking.proofs.PairsHeld.{flipped_in}
 use Rattle.parking.proofs.rank_heap.RankHeap+OrderWrapper+O.flip.Goals as goal
 use Rattle.parking.specs.Heaps.{Heaped}
 use Rattle.parking.specs.Held.{Held}

@@ -1,5 +1,5 @@
-use Rattle.std.proofs.Common.{◌≡◌, ◌+◌, ◌≤◌, List, ◌∷◌, ◌++◌, drop, length, take, Option, sym, ap, subst, arith}
-use Rattle.parking.proofs.HeapParts.{PutIn, put_in, order_before}
+use Rattle.std.proofs.Common.{◌+◌, ◌≤◌, List, ◌∷◌, ◌++◌, drop, take, Option, sym, ap, subst, arith}
+use Rattle.parking.proofs.HeapParts.{put_in, order_before}
 use Rattle.parking.proofs.rank_heap.RankHeap.put.Goals as goal
 use Rattle.parking.specs.Heaps.{Heaped}
 use Rattle.parking.specs.Held.{Held}

@@ -1,5 +1,5 @@
 use Rattle.std.proofs.Common.{◌≡◌, ◌-◌, ◌≤◌, List, ◌++◌, drop, length, take, Option, sym, ap, ◌∙◌, subst, arith}
-use Rattle.parking.proofs.HeapParts.{TakenOut, taken_out, filled_fewer, order_fewer}
+use Rattle.parking.proofs.HeapParts.{taken_out, filled_fewer, order_fewer}
 use Rattle.parking.proofs.rank_heap.RankHeap.take_at.Goals as goal
 use Rattle.parking.specs.Heaps.{Heaped}
 use Rattle.parking.specs.Held.{Held}
