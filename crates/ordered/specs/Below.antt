@@ -24,10 +24,10 @@ label bearing w = (w.index, bearing w.«data»)
 abbrev pub label_flipped : Label → Label
 label_flipped l = (index_flipped l.0, l.1)
 
--- Why a push is refused, and what it answers with the bare task.
-abbrev pub refusal_of : {F : Type 0} → Result ℕ (Refused (OrderWrapper F)) → Option Fault
-refusal_of (Ok a) = None
-refusal_of (Err r) = Some r.fault
+-- Whether a push is accepted, or why it is refused; and what it answers with the bare task.
+abbrev pub leave_of : {F : Type 0} → Result ℕ (Refused (OrderWrapper F)) → Result (Unit {0}) Fault
+leave_of (Ok a) = Ok tt
+leave_of (Err r) = Err r.fault
 
 abbrev pub unwrapped : {F : Type 0} → Result ℕ (Refused (OrderWrapper F)) → Result ℕ (Refused F)
 unwrapped (Ok a) = Ok a

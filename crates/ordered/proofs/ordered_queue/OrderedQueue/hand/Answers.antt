@@ -8,7 +8,7 @@ use Rattle.runs.specs.Tokens.{hand_fault, one_more}
 
 pub returns : goal.returns
 returns g c =
-    let s = line_of g.S.TaskSet.model g.P.Parking.bag g.P.Parking.places g.P.Parking.rest c.args.self.now in
+    let s = line_of g.S.TaskSet g.P.Parking c.args.self.now in
     let after = ap (λ m. with_below s m) c.hand.ensures.after ∙ leaves_below s (hand_fault g.S.TaskSet.below.kind.tokened s.below c.args.address) (one_more g.S.TaskSet.below.kind.tokened s.below) in
     record {
       answer = c.hand.ensures.answer;

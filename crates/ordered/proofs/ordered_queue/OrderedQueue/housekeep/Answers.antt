@@ -7,7 +7,7 @@ use Rattle.tasks.specs.Orders.{index_flipped, top_bit}
 
 pub returns-then-self-ge-MSB : goal.returns-then-self-ge-MSB
 returns-then-self-ge-MSB g c =
-    let line = line_of g.S.TaskSet.model g.P.Parking.bag g.P.Parking.places g.P.Parking.rest in
+    let line = line_of g.S.TaskSet g.P.Parking in
     let q = c.args.self.now in
     let s = line q in
     let p = c.flip.new.self in

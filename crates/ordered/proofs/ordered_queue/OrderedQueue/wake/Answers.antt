@@ -8,7 +8,7 @@ use Rattle.runs.specs.Tokens.{spend_fault, one_less}
 
 pub returns : goal.returns
 returns g c =
-    let s = line_of g.S.TaskSet.model g.P.Parking.bag g.P.Parking.places g.P.Parking.rest c.args.self.now in
+    let s = line_of g.S.TaskSet g.P.Parking c.args.self.now in
     let after = ap (λ m. with_below s m) c.wake.ensures.after ∙ leaves_below s (spend_fault g.S.TaskSet.below.kind.tokened s.below c.args.token) (one_less g.S.TaskSet.below.kind.tokened (g.S.TaskSet.below.kind.tokened.woken s.below c.args.token.address)) in
     record {
       answer = c.wake.ensures.answer;
