@@ -19,6 +19,7 @@ use Rattle.runs.specs.Tokens.{leaves}
 use Rattle.std.proofs.lemmas.Bool.{leb-false, le-leb, lt-leb, eq-eqb, cases_Bool, cond-true, cond-false, cond_both}
 use Rattle.std.proofs.ByRecursion.{all_shuffled}
 use Rattle.std.specs.List.Sorted.{IsPermutation}
+use Rattle.std.specs.Result.{IsOk}
 use Rattle.std.specs.List.{AllByRecursion as All}
 use Rattle.tasks.specs.Orders.{index_raised, index_lowered, index_flipped, top_bit, wrapper_flipped}
 use Rattle.tasks.specs.declared.fault.Fault.{Fault}
@@ -65,10 +66,6 @@ leaves_below s (Some f) t = refl
 pub put_then : {O : Type 0} (places : ℕ) (w : OrderWrapper O) (bag : List (OrderWrapper O)) (r : Result (Unit {0}) O) (after : List (OrderWrapper O)) → Put places w.index w.«data» bag r after → Fits places (w ∷ bag) → IsPermutation (w ∷ bag) after
 put_then places w bag (Ok u) after done fits = done
 put_then places w bag (Err x) after done fits = absurd (done.2 fits)
-
-flipped_then : {O : Type 0} (places : ℕ) (bag : List (OrderWrapper O)) (ok : Result (Unit {0}) Unfit) (after : List (OrderWrapper O)) → Flipped places bag ok after → Fits places (map wrapper_flipped bag) → IsPermutation (map wrapper_flipped bag) after
-flipped_then places bag (Ok u) after done fits = done
-flipped_then places bag (Err e) after done fits = absurd (done.1 fits)
 
 module _ {M Q F O R : Type 0} (b : Below M Q F O) (full : ℕ → ℕ → Fault) (Inv : M → Type 0) (labels : M → List Label) where
   -- as many are held as there are places, at most
@@ -198,31 +195,49 @@ module _ {M Q F O R : Type 0} (b : Below M Q F O) (full : ℕ → ℕ → Fault)
   apart_bag s d bag l is i =
       omega (arith, apart_lined no_ticket Inv labels s d l i, ap (λ ws. count_by (λ (w : OrderWrapper O). eqb w.index i) ws) is, count_ascending (λ w. eqb w.index i) bag)
 
-  -- the parking was flipped, and so was the set below
-  pub housekept_is : (s after : Ordered M O R) (bag flat : List (OrderWrapper O)) (ok : Result (Unit {0}) Unfit) → Kept b Inv labels s → s.parked ≡ ascending bag → 2 ^ 63 ≤ s.outgoing
-      → Flipped s.places bag ok flat
-      → after ≡ record { below = b.flipped s.below; parked = ascending flat; places = s.places; incoming = index_flipped s.incoming; outgoing = index_flipped s.outgoing; beyond = s.beyond }
-      → (after ≡ housekept b full s) × Kept b Inv labels after × (top_bit (index_flipped s.outgoing) ≡ false)
-  housekept_is s after bag flat ok k is high done to =
-      let l : Lined no_ticket Inv labels s k.deque = k.lined in
-      let e : top_bit s.outgoing ≡ true = le-leb (2 ^ 63) s.outgoing high in
-      let low : top_bit (index_flipped s.outgoing) ≡ false = lt-leb (2 ^ 63) (index_flipped s.outgoing) (omega (arith, l.wraps, high)) in
-      let apart : Apart bag = apart_bag s k.deque bag l is in
-      let within : All (λ w. w.index < 2 ^ 64) bag = all_from_ascending (λ w. w.index < 2 ^ 64) bag (subst (λ ws. All (λ (w : OrderWrapper O). w.index < 2 ^ 64) ws) is (within_lined no_ticket Inv labels s k.deque l)) in
-      let flipped_apart : Apart (map wrapper_flipped bag) = apart_flipped bag within apart in
-      let t : Ordered M O R = flipped_if b full true s in
-      let line : Lined no_ticket Inv labels t k.deque = flip_line b full no_ticket no_ticket Inv labels labels k.tickets k.flips true s k.deque l in
-      let sorted : ascending (map wrapper_flipped s.parked) ≡ ascending (map wrapper_flipped bag) = ap (λ ws. ascending (map wrapper_flipped ws)) is ∙ ascending_map wrapper_flipped bag flipped_apart in
-      let fits : Fits s.places (map wrapper_flipped bag)
-      = fits_lined t k.deque (map wrapper_flipped bag) line low (λ test. sym (count_ascending test (map wrapper_flipped bag)) ∙ ap (λ ws. count_by test ws) (sym sorted)) in
-      let shuffled : IsPermutation (map wrapper_flipped bag) flat = flipped_then s.places bag ok flat done fits in
-      let parked : ascending flat ≡ ascending (map wrapper_flipped s.parked) = sym (ascending_shuffled (map wrapper_flipped bag) flat shuffled flipped_apart) ∙ sym sorted in
-      let there : after ≡ t
-      = to ∙ ap (λ ws. let u : Ordered M O R = record { below = b.flipped s.below; parked = ws; places = s.places; incoming = index_flipped s.incoming; outgoing = index_flipped s.outgoing; beyond = s.beyond } in u) parked in (
-        there ∙ ap (λ h. flipped_if b full h s) (sym e),
-        record { tickets = k.tickets; flips = k.flips; deque = k.deque; lined = subst (λ u. Lined no_ticket Inv labels u k.deque) (sym there) line },
-        low,
-      )
+  -- where the top bit of outgoing is set, the pairs that wait fit after it was flipped
+  module _ (s : Ordered M O R) (bag : List (OrderWrapper O)) (k : Kept b Inv labels s) (is : s.parked ≡ ascending bag) (high : 2 ^ 63 ≤ s.outgoing) where
+    apart_before : Apart bag
+    apart_before = apart_bag s k.deque bag k.lined is
+
+    apart_after : Apart (map wrapper_flipped bag)
+    apart_after =
+        apart_flipped bag (all_from_ascending (λ w. w.index < 2 ^ 64) bag (subst (λ ws. All (λ (w : OrderWrapper O). w.index < 2 ^ 64) ws) is (within_lined no_ticket Inv labels s k.deque k.lined))) apart_before
+
+    low_after : top_bit (index_flipped s.outgoing) ≡ false
+    low_after = lt-leb (2 ^ 63) (index_flipped s.outgoing) (omega (arith, k.lined.wraps, high))
+
+    line_after : Lined no_ticket Inv labels (flipped_if b full true s) k.deque
+    line_after = flip_line b full no_ticket no_ticket Inv labels labels k.tickets k.flips true s k.deque k.lined
+
+    sorted_after : ascending (map wrapper_flipped s.parked) ≡ ascending (map wrapper_flipped bag)
+    sorted_after = ap (λ ws. ascending (map wrapper_flipped ws)) is ∙ ascending_map wrapper_flipped bag apart_after
+
+    fits_after : Fits s.places (map wrapper_flipped bag)
+    fits_after =
+        fits_lined (flipped_if b full true s) k.deque (map wrapper_flipped bag) line_after low_after (λ test. sym (count_ascending test (map wrapper_flipped bag)) ∙ ap (λ ws. count_by test ws) (sym sorted_after))
+
+    -- so the parking flips them
+    pub flips : (r : Result (Unit {0}) Unfit) (after : List (OrderWrapper O)) → Flipped s.places bag r after → IsOk r
+    flips (Ok u) after done = refl
+    flips (Err e) after done = absurd (done.1 fits_after)
+
+    shuffled_after : (r : Result (Unit {0}) Unfit) (after : List (OrderWrapper O)) → Flipped s.places bag r after → IsPermutation (map wrapper_flipped bag) after
+    shuffled_after (Ok u) after done = done
+    shuffled_after (Err e) after done = absurd (done.1 fits_after)
+
+    -- and then the set below is flipped too
+    pub housekept_is : (r : Result (Unit {0}) Unfit) (flat : List (OrderWrapper O)) (after : Ordered M O R) → Flipped s.places bag r flat
+        → after ≡ record { below = b.flipped s.below; parked = ascending flat; places = s.places; incoming = index_flipped s.incoming; outgoing = index_flipped s.outgoing; beyond = s.beyond }
+        → (after ≡ housekept b full s) × Kept b Inv labels after × (top_bit (index_flipped s.outgoing) ≡ false)
+    housekept_is r flat after done to =
+        let parked : ascending flat ≡ ascending (map wrapper_flipped s.parked) = sym (ascending_shuffled (map wrapper_flipped bag) flat (shuffled_after r flat done) apart_after) ∙ sym sorted_after in
+        let there : after ≡ flipped_if b full true s
+        = to ∙ ap (λ ws. let u : Ordered M O R = record { below = b.flipped s.below; parked = ws; places = s.places; incoming = index_flipped s.incoming; outgoing = index_flipped s.outgoing; beyond = s.beyond } in u) parked in (
+          there ∙ ap (λ h. flipped_if b full h s) (sym (le-leb (2 ^ 63) s.outgoing high)),
+          record { tickets = k.tickets; flips = k.flips; deque = k.deque; lined = subst (λ u. Lined no_ticket Inv labels u k.deque) (sym there) line_after },
+          low_after,
+        )
 
   -- an output that the set below gives and that is not next in turn fits the parking
   pub fits_round : (s : Ordered M O R) (bag : List (OrderWrapper O)) (post : List ℕ) (w : OrderWrapper O) → Kept b Inv labels s → s.parked ≡ ascending bag → top_bit s.outgoing ≡ false

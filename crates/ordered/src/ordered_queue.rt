@@ -15,7 +15,7 @@ use tasks::poll::{Poll, Polled};
 pub mod tokens;
 
 // A queue of futures that are yielded in its order: those in progress in a set of tasks, and outputs that wait for their
-// turn in a parking.
+// turn in a parking. What it keeps, `Sound`, stays in clauses: `new` takes any set below, so it need not hold of each queue.
 pub struct OrderedQueue<S, P> {
     in_progress_queue: S,
     queued_outputs: P,
@@ -97,7 +97,7 @@ impl<S: TaskSet, P: Parking<Output = S::Output>> OrderedQueue<S, P> {
         ensures low { top_bit self.new.next_outgoing_index ≡ false }
     {
         if self.next_outgoing_index >= MSB {
-            let _ = self.queued_outputs.flip();
+            self.queued_outputs.flip().unwrap();
             self.in_progress_queue.flip();
             self.next_outgoing_index = flip(self.next_outgoing_index);
             self.next_incoming_index = flip(self.next_incoming_index);
