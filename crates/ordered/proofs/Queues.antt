@@ -8,8 +8,8 @@ use Rattle.ordered.specs.Below.{Below, Label, label, leave_of, unwrapped}
 use Rattle.ordered.specs.BoundedBelow.{no_ticket}
 use Rattle.ordered.specs.Deques.{joined_if, taken_by, fed}
 use Rattle.ordered.specs.Lined.{Lined}
-use Rattle.ordered.specs.Ordered.{Ordered, Outcome, Pushing, Side, back, front, room_for, held, index_for, incoming_after, outgoing_after, wrapped, accepting, accepts, pushed_if, pushed, flipped_if, housekept, with_parked, from_parked, polled_by_turn, outcome, ascending, parked_with, bearing_index, without_index, with_below, step}
-use Rattle.ordered.specs.Queue.{Kept, PushedBy, Secured, PutUnder, Accepting}
+use Rattle.ordered.specs.Ordered.{Ordered, Outcome, Pushing, Side, room_for, held, index_for, incoming_after, outgoing_after, wrapped, accepting, accepts, pushed_if, pushed, flipped_if, housekept, with_parked, from_parked, polled_by_turn, outcome, ascending, parked_with, bearing_index, without_index, with_below, step}
+use Rattle.ordered.specs.Queue.{Kept, PushedBy, PutUnder, Accepting}
 use Rattle.ordered.specs.Rounds.{settled}
 use Rattle.parking.specs.declared.parking.Unfit.{Unfit}
 use Rattle.parking.specs.Bags.{Fits, Put, Flipped, bears_index, in_run, pair}
@@ -21,7 +21,7 @@ use Rattle.std.proofs.ByRecursion.{all_shuffled}
 use Rattle.std.specs.List.Sorted.{IsPermutation}
 use Rattle.std.specs.Result.{IsOk}
 use Rattle.std.specs.List.{AllByRecursion as All}
-use Rattle.tasks.specs.Orders.{index_raised, index_lowered, index_flipped, top_bit, wrapper_flipped}
+use Rattle.tasks.specs.Orders.{index_raised, index_flipped, top_bit, wrapper_flipped}
 use Rattle.tasks.specs.declared.fault.Fault.{Fault}
 use Rattle.tasks.specs.declared.fault.Refused.{Refused}
 use Rattle.tasks.specs.declared.order_wrapper.OrderWrapper.{OrderWrapper}

@@ -15,7 +15,6 @@ use Rattle.tasks.specs.declared.fault.Fault.{Fault}
 use Rattle.tasks.specs.declared.order_wrapper.OrderWrapper.{OrderWrapper}
 use Rattle.tasks.specs.declared.poll.Poll.{Poll}
 use Rattle.tasks.specs.declared.poll.Poll.TheVariants.{Ready, Pending}
-use Rattle.tasks.specs.declared.poll.Polled.{Polled}
 use Rattle.tasks.specs.Orders.{index_raised, top_bit}
 
 -- what a poll is after a round: it ends, or goes on

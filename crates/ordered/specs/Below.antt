@@ -1,5 +1,5 @@
 -- What an ordered set needs of the set below it, which holds its tasks, each with its index.
-use Rattle.std.specs.Prelude.{◌≡◌, ℕ, Bool, List, Some, None, Ok, Err, count_by, Option, Result}
+use Rattle.std.specs.Prelude.{◌≡◌, ℕ, Bool, List, Ok, Err, count_by, Result}
 use Rattle.runs.specs.Kinds.{Kind}
 use Rattle.tasks.specs.Orders.{index_flipped}
 use Rattle.tasks.specs.declared.fault.Fault.{Fault}

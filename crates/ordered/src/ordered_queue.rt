@@ -1,7 +1,7 @@
 ghost use Rattle.std.specs.Prelude.{◌≡◌, ℕ, ◌≤◌, false, [], ◌∷◌, None, ◌==◌};
 ghost use Rattle.ordered.specs.Ordered.{back, front, held, housekept, from_parked, outcome, made, bearing_index};
 ghost use Rattle.ordered.specs.Rounds.{yielded, settled, round_of, set_of_round};
-ghost use Rattle.parking.specs.Bags.{Fits, pair};
+ghost use Rattle.parking.specs.Bags.{Fits};
 ghost use Rattle.ordered.specs.Queue.{line_of, Sound, Secures, Puts, Pushes};
 ghost use Rattle.tasks.specs.Orders.{index_raised, index_lowered, top_bit};
 
@@ -61,7 +61,8 @@ impl<S: TaskSet, P: Parking<Output = S::Output>> OrderedQueue<S, P> {
         requires { Sound S.TaskSet P.Parking self.old }
         ensures { Puts S.TaskSet P.Parking self.old (record { «data» = task; index = index }) result self.new }
     {
-        self.secure_one().map_err(|fault| Refused { fault, input: task })?;
+        self.secure_one()
+            .map_err(|fault| Refused { fault, input: task })?;
         self.in_progress_queue.push(task, index)
     }
 
@@ -105,16 +106,16 @@ impl<S: TaskSet, P: Parking<Output = S::Output>> OrderedQueue<S, P> {
     }
 
     // Yields an output that is next in turn, and parks any other.
-    fn settle(&mut self, index: u64, output: S::Output) -> Option<S::Output>
-        requires { (index == self.old.next_outgoing_index) ≡ false → Fits (P.Parking.places self.old.queued_outputs) (pair index output ∷ P.Parking.bag self.old.queued_outputs) }
-        ensures answer { result ≡ yielded (line_of S.TaskSet P.Parking self.old) (pair index output) }
-        ensures after { line_of S.TaskSet P.Parking self.new ≡ settled (line_of S.TaskSet P.Parking self.old) (pair index output) }
+    fn settle(&mut self, output: OrderWrapper<S::Output>) -> Option<S::Output>
+        requires { (output.index == self.old.next_outgoing_index) ≡ false → Fits (P.Parking.places self.old.queued_outputs) (output ∷ P.Parking.bag self.old.queued_outputs) }
+        ensures answer { result ≡ yielded (line_of S.TaskSet P.Parking self.old) output }
+        ensures after { line_of S.TaskSet P.Parking self.new ≡ settled (line_of S.TaskSet P.Parking self.old) output }
     {
-        if index == self.next_outgoing_index {
-            self.next_outgoing_index = index.wrapping_add(1);
-            return Some(output);
+        if output.index == self.next_outgoing_index {
+            self.next_outgoing_index = output.index.wrapping_add(1);
+            return Some(output.data);
         }
-        self.queued_outputs.put(index, output).unwrap();
+        self.queued_outputs.put(output.index, output.data).unwrap();
         None
     }
 
@@ -136,8 +137,8 @@ impl<S: TaskSet, P: Parking<Output = S::Output>> OrderedQueue<S, P> {
         let poll = match poll {
             Poll::Pending => Some(Poll::Pending),
             Poll::Ready(None) => Some(Poll::Ready(None)),
-            Poll::Ready(Some(wrapper)) => {
-                self.settle(wrapper.index, wrapper.data).map(|output| Poll::Ready(Some(output)))
+            Poll::Ready(Some(output)) => {
+                self.settle(output).map(|output| Poll::Ready(Some(output)))
             }
         };
         Rounded {

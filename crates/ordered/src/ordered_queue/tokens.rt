@@ -9,7 +9,7 @@ use parking::parking::Parking;
 use tasks::fault::{Fault, Refused};
 use wakes::waker::Waker;
 
-// The token calls go to the set below.
+// The token calls go to the set below. A trait for both would name each of them once more.
 impl<S: TaskSet, P: Parking<Output = S::Output>> OrderedQueue<S, P> {
     // Hands out the token of an occupied slot.
     pub fn hand(&mut self, address: usize) -> Result<Waker, Refused<usize>>

@@ -1,8 +1,8 @@
-use Rattle.std.proofs.Common.{◌≡◌, Err, sym, refl, ap, subst, rules}
+use Rattle.std.proofs.Common.{◌≡◌, Err, refl, ap, rules}
 use Rattle.ordered.proofs.Queues.{handed_back, pushed_as}
 use Rattle.ordered.proofs.ordered_queue.OrderedQueue.push_front.Goals as goal
 use Rattle.ordered.specs.Ordered.{Ordered, front}
-use Rattle.ordered.specs.Queue.{line_of, PushedBy}
+use Rattle.ordered.specs.Queue.{line_of}
 use Rattle.tasks.specs.Orders.{index_lowered}
 
 pub returns-in_err-address-clause-pushed : goal.returns-in_err-address-clause-pushed
@@ -11,8 +11,7 @@ returns-in_err-address-clause-pushed g c =
     let possible = g.P.Parking.secures c.args.self.now.queued_outputs in
     let r = c.in_err-address.field-0.0 in
     let is : c.from_residual.result ≡ Err r = search rules in
-    subst (λ x. PushedBy g.S.TaskSet.below g.P.Parking.full possible (line c.args.self.now) front c.args.task x (line c.push.new.self)) (sym is)
-    (handed_back g.S.TaskSet.below g.P.Parking.full g.S.TaskSet.Inv g.S.TaskSet.labels (line c.args.self.now) (line c.push.new.self) front (record { «data» = c.args.task; index = index_lowered c.args.self.now.next_outgoing_index }) r possible c.in_err-address.ensures c.requires).0
+    rw is (handed_back g.S.TaskSet.below g.P.Parking.full g.S.TaskSet.Inv g.S.TaskSet.labels (line c.args.self.now) (line c.push.new.self) front (record { «data» = c.args.task; index = index_lowered c.args.self.now.next_outgoing_index }) r possible c.in_err-address.ensures c.requires).0
 
 pub returns-clause-sound : goal.returns-clause-sound
 returns-clause-sound g c =
