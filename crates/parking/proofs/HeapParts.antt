@@ -3,11 +3,24 @@ use Rattle.std.proofs.Common.{◌≡◌, ℕ, ◌+◌, ◌-◌, ◌/◌, ◌<◌
 use Rattle.parking.proofs.Holding.{AllHold, hold_all, hold_push, hold_shuffled, hold_taken, length_held, entries_append, entries_few}
 use Rattle.parking.proofs.Ranks.{rank_taken}
 use Rattle.parking.specs.Heaps.{rank_at, InOrder, Heaped}
-use Rattle.parking.specs.Places.{place_rank, entries_in, Filled, Gave}
+use Rattle.parking.specs.Places.{place_rank, entries_in, Filled}
+use Rattle.parking.specs.declared.rank.Rank.{Ghosts}
+use Rattle.parking.specs.declared.rank_heap.RankHeap.{RankHeap}
 use Rattle.std.proofs.lemmas.List.{take_all, take-take, take-append-le, take_more_set, length-set, length-take-le, length-append, length-drop, map-append, append_cancel_right}
 use Rattle.std.proofs.lemmas.List.Sorted.{IsPermutation-trans, IsPermutation-to_front, IsPermutation-sym, length_permutation}
 use Rattle.std.proofs.lemmas.Slice.{drop-append-drop, overwrites}
 use Rattle.std.specs.List.Sorted.{IsPermutation}
+
+-- a place gave an entry, which is out of the bag then
+pub record Gave {E : Type 0} (bag : List E) (r : Option E) (after : List E) : Type 0 where
+  pub entry : E
+  pub is : r ≡ Some entry
+  pub rest : IsPermutation bag (entry ∷ after)
+
+pub gave_it : {E : Type 0} (bag after : List E) (r : Option E) (e : E) → Gave bag r after → r ≡ Some e → IsPermutation bag (e ∷ after)
+gave_it bag after r e gave is =
+    let same : gave.entry ≡ e = let was = gave.is in cc in
+    subst (λ x. IsPermutation bag (x ∷ after)) same gave.rest
 
 -- the memory xs, of whose first n places ys was made
 pub record Part {X : Type 0} (xs ys : List X) (n places : ℕ) : Type 0 where
@@ -41,57 +54,57 @@ module _ {E : Type 0} where
   filled_fewer xs k n le filled =
       length_held (take k xs) (subst (λ l. AllHold l) (take-take k n xs le) (hold_taken k (take n xs) (hold_all (take n xs) filled)))
 
-  module _ (rank : E → ℕ) (xs : List (Option E)) (n places : ℕ) (within : places ≤ length xs) (few : n ≤ places) (holding : Filled (take n xs)) where
-    hold : AllHold (take n xs)
-    hold = hold_all (take n xs) holding
+  module _ {rank : Ghosts E} (h : RankHeap E rank) where
+    hold : AllHold (take h.count h.memory.now)
+    hold = hold_all (take h.count h.memory.now) h.holding
 
     -- before an entry is put last
-    pub order_before : n < places → Heaped (place_rank rank) (take n xs) → InOrder (rank_at (place_rank rank) (take (n + 1) xs)) (length (take (n + 1) xs) - 1)
-    order_before room order k lt =
-        let long = length-take-le (n + 1) xs (omega arith) in
-        let short = length-take-le n xs (omega arith) in
-        let r = place_rank rank in
+    pub order_before : h.count < h.places → InOrder (rank_at (place_rank rank.rank) (take (h.count + 1) h.memory.now)) (length (take (h.count + 1) h.memory.now) - 1)
+    order_before room k lt =
+        let long = length-take-le (h.count + 1) h.memory.now (omega arith) in
+        let short = length-take-le h.count h.memory.now (omega arith) in
+        let r = place_rank rank.rank in
         omega (
           arith,
-          order k (omega (arith, long, short)),
-          rank_taken r xs (n + 1) (k / 2) (omega (arith, long)),
-          rank_taken r xs (n + 1) (k + 1) (omega (arith, long)),
-          rank_taken r xs n (k / 2) (omega (arith, long)),
-          rank_taken r xs n (k + 1) (omega (arith, long)),
+          h.in_order k (omega (arith, long, short)),
+          rank_taken r h.memory.now (h.count + 1) (k / 2) (omega (arith, long)),
+          rank_taken r h.memory.now (h.count + 1) (k + 1) (omega (arith, long)),
+          rank_taken r h.memory.now h.count (k / 2) (omega (arith, long)),
+          rank_taken r h.memory.now h.count (k + 1) (omega (arith, long)),
         )
 
     -- after it was put
     pub record PutIn (e : E) (ys : List (Option E)) : Type 0 where
-      pub part : Part xs ys (n + 1) places
+      pub part : Part h.memory.now ys (h.count + 1) h.places
       pub filled : Filled ys
-      pub bag : IsPermutation (e ∷ entries_in (take n xs)) (entries_in ys)
+      pub bag : IsPermutation (e ∷ entries_in (take h.count h.memory.now)) (entries_in ys)
 
-    pub put_in : (e : E) (ys : List (Option E)) → n < places
-        → IsPermutation (set (take (n + 1) xs) (length (take (n + 1) xs) - 1) (Some e)) ys → PutIn e ys
+    pub put_in : (e : E) (ys : List (Option E)) → h.count < h.places
+        → IsPermutation (set (take (h.count + 1) h.memory.now) (length (take (h.count + 1) h.memory.now) - 1) (Some e)) ys → PutIn e ys
     put_in e ys room same =
-        let was : List (Option E) = take (n + 1) xs in
-        let long : length was ≡ n + 1 = length-take-le (n + 1) xs (omega arith) in
-        let last : length was - 1 ≡ n = omega (arith, long) in
-        let filled : set was n (Some e) ≡ take n xs ++ Some e ∷ []
-        = sym (take_all (n + 1) (set was n (Some e)) (omega (arith, long, length-set was n (Some e)))) ∙ take_more_set was n (Some e) (omega (arith, long)) ∙ ap (λ l. l ++ Some e ∷ []) (take-take n (n + 1) xs (omega arith)) in
-        let same2 : IsPermutation (take n xs ++ Some e ∷ []) ys = subst (λ l. IsPermutation l ys) filled (subst (λ k. IsPermutation (set was k (Some e)) ys) last same) in
-        let whole = hold_shuffled (take n xs ++ Some e ∷ []) ys (hold_push (take n xs) e hold) same2 in
-        let ylong : length ys ≡ n + 1 = length_permutation (set was (length was - 1) (Some e)) ys same ∙ length-set was (length was - 1) (Some e) ∙ long in
-        let front : IsPermutation (e ∷ entries_in (take n xs)) (entries_in (take n xs) ++ e ∷ [])
-        = IsPermutation-sym (entries_in (take n xs) ++ e ∷ []) (e ∷ entries_in (take n xs)) (IsPermutation-to_front (entries_in (take n xs)) e) in
+        let was : List (Option E) = take (h.count + 1) h.memory.now in
+        let long : length was ≡ h.count + 1 = length-take-le (h.count + 1) h.memory.now (omega arith) in
+        let last : length was - 1 ≡ h.count = omega (arith, long) in
+        let filled : set was h.count (Some e) ≡ take h.count h.memory.now ++ Some e ∷ []
+        = sym (take_all (h.count + 1) (set was h.count (Some e)) (omega (arith, long, length-set was h.count (Some e)))) ∙ take_more_set was h.count (Some e) (omega (arith, long)) ∙ ap (λ l. l ++ Some e ∷ []) (take-take h.count (h.count + 1) h.memory.now (omega arith)) in
+        let same2 : IsPermutation (take h.count h.memory.now ++ Some e ∷ []) ys = subst (λ l. IsPermutation l ys) filled (subst (λ k. IsPermutation (set was k (Some e)) ys) last same) in
+        let whole = hold_shuffled (take h.count h.memory.now ++ Some e ∷ []) ys (hold_push (take h.count h.memory.now) e hold) same2 in
+        let ylong : length ys ≡ h.count + 1 = length_permutation (set was (length was - 1) (Some e)) ys same ∙ length-set was (length was - 1) (Some e) ∙ long in
+        let front : IsPermutation (e ∷ entries_in (take h.count h.memory.now)) (entries_in (take h.count h.memory.now) ++ e ∷ [])
+        = IsPermutation-sym (entries_in (take h.count h.memory.now) ++ e ∷ []) (e ∷ entries_in (take h.count h.memory.now)) (IsPermutation-to_front (entries_in (take h.count h.memory.now)) e) in
         record {
-          part = part xs ys (n + 1) places (omega arith) within ylong;
+          part = part h.memory.now ys (h.count + 1) h.places (omega arith) h.within ylong;
           filled = length_held ys whole.0;
-          bag = IsPermutation-trans (e ∷ entries_in (take n xs)) (entries_in (take n xs) ++ e ∷ []) (entries_in ys) front
-              (subst (λ l. IsPermutation l (entries_in ys)) (entries_append (take n xs) (Some e ∷ [])) whole.1);
+          bag = IsPermutation-trans (e ∷ entries_in (take h.count h.memory.now)) (entries_in (take h.count h.memory.now) ++ e ∷ []) (entries_in ys) front
+              (subst (λ l. IsPermutation l (entries_in ys)) (entries_append (take h.count h.memory.now) (Some e ∷ [])) whole.1);
         }
 
-    -- after the last of the used places was taken away
+    -- after the last of the used h.places was taken away
     pub record TakenOut (r : Option E) (ys : List (Option E)) : Type 0 where
-      pub used : take (n - 1) (ys ++ drop n xs) ≡ take (n - 1) ys
-      pub part : Part xs ys n places
-      pub filled : Filled (take (n - 1) ys)
-      pub gave : Gave (entries_in (take n xs)) r (entries_in (take (n - 1) ys))
+      pub used : take (h.count - 1) (ys ++ drop h.count h.memory.now) ≡ take (h.count - 1) ys
+      pub part : Part h.memory.now ys h.count h.places
+      pub filled : Filled (take (h.count - 1) ys)
+      pub gave : Gave (entries_in (take h.count h.memory.now)) r (entries_in (take (h.count - 1) ys))
 
     last_holds : (zs : List (Option E)) (r : Option E) (bag : List E) → AllHold (zs ++ r ∷ []) → IsPermutation bag (entries_in (zs ++ r ∷ [])) → AllHold zs × Gave bag r (entries_in zs)
     last_holds zs None bag h s =
@@ -111,17 +124,17 @@ module _ {E : Type 0} where
           },
         )
 
-    pub taken_out : (r : Option E) (ys : List (Option E)) → 0 < n → IsPermutation (take n xs) ys → ys ≡ take (length (take n xs) - 1) ys ++ r ∷ [] → TakenOut r ys
+    pub taken_out : (r : Option E) (ys : List (Option E)) → 0 < h.count → IsPermutation (take h.count h.memory.now) ys → ys ≡ take (length (take h.count h.memory.now) - 1) ys ++ r ∷ [] → TakenOut r ys
     taken_out r ys some same end =
-        let long : length (take n xs) ≡ n = length-take-le n xs (omega arith) in
-        let last : length (take n xs) - 1 ≡ n - 1 = omega (arith, long) in
-        let ylong : length ys ≡ n = length_permutation (take n xs) ys same ∙ long in
-        let end2 : ys ≡ take (n - 1) ys ++ r ∷ [] = end ∙ ap (λ k. take k ys ++ r ∷ []) last in
-        let whole = hold_shuffled (take n xs) ys hold same in
-        let split = last_holds (take (n - 1) ys) r (entries_in (take n xs)) (subst (λ l. AllHold l) end2 whole.0) (subst (λ l. IsPermutation (entries_in (take n xs)) (entries_in l)) end2 whole.1) in
+        let long : length (take h.count h.memory.now) ≡ h.count = length-take-le h.count h.memory.now (omega arith) in
+        let last : length (take h.count h.memory.now) - 1 ≡ h.count - 1 = omega (arith, long) in
+        let ylong : length ys ≡ h.count = length_permutation (take h.count h.memory.now) ys same ∙ long in
+        let end2 : ys ≡ take (h.count - 1) ys ++ r ∷ [] = end ∙ ap (λ k. take k ys ++ r ∷ []) last in
+        let whole = hold_shuffled (take h.count h.memory.now) ys hold same in
+        let split = last_holds (take (h.count - 1) ys) r (entries_in (take h.count h.memory.now)) (subst (λ l. AllHold l) end2 whole.0) (subst (λ l. IsPermutation (entries_in (take h.count h.memory.now)) (entries_in l)) end2 whole.1) in
         record {
-          used = take-append-le (n - 1) ys (drop n xs) (omega (arith, ylong));
-          part = part xs ys n places few within ylong;
-          filled = length_held (take (n - 1) ys) split.0;
+          used = take-append-le (h.count - 1) ys (drop h.count h.memory.now) (omega (arith, ylong));
+          part = part h.memory.now ys h.count h.places h.few h.within ylong;
+          filled = length_held (take (h.count - 1) ys) split.0;
           gave = split.1;
         }

@@ -4,7 +4,9 @@ use Rattle.parking.proofs.HeapParts.{Part, part}
 use Rattle.parking.proofs.Holding.{hold_all, hold_shuffled, hold_from, length_held}
 use Rattle.parking.specs.Bags.{bears_index, Taken}
 use Rattle.parking.specs.Heaps.{rank_at}
-use Rattle.parking.specs.Places.{place_rank, index_of, entries_in, Filled, FoundAt, Gave}
+use Rattle.parking.specs.Places.{place_rank, index_of, entries_in, Filled, FoundAt}
+use Rattle.parking.specs.declared.rank.Rank.{Ghosts}
+use Rattle.parking.specs.declared.rank_heap.RankHeap.{RankHeap}
 use Rattle.std.proofs.lemmas.List.{get_or-map, length-map, length-take-le}
 use Rattle.std.proofs.lemmas.List.Sorted.{length_permutation}
 use Rattle.std.proofs.lemmas.List.Sums.{sum_by-cons}
@@ -41,34 +43,32 @@ module _ {O : Type 0} where
       omega (arith, s, z, rest)
 
   -- what was given has the index
-  pub took : (bag after : List (OrderWrapper O)) (i : ℕ) (w : OrderWrapper O) → Gave bag (Some w) after → suc w.index ≡ suc i → Taken i bag (Some w.«data») after
-  took bag after i w gave e =
-      let same : gave.entry ≡ w = let is = gave.is in cc in
+  pub took : (bag after : List (OrderWrapper O)) (i : ℕ) (w : OrderWrapper O) → IsPermutation bag (w ∷ after) → suc w.index ≡ suc i → Taken i bag (Some w.«data») after
+  took bag after i w same e =
       let at : w.index ≡ i = omega (arith, e) in
       let pair : w ≡ record { «data» = w.«data»; index = i } = ap (λ (n : ℕ). let v : OrderWrapper O = record { «data» = w.«data»; index = n } in v) at in
-      subst (λ v. IsPermutation bag (v ∷ after)) (same ∙ pair) gave.rest
+      subst (λ v. IsPermutation bag (v ∷ after)) pair same
 
   held_flipped : (es : List (OrderWrapper O)) → map (option_flipped wrapper_flipped) (map (λ e. Some e) es) ≡ map (λ e. Some e) (map wrapper_flipped es)
   held_flipped [] = refl
   held_flipped (e ∷ es) = ap (λ l. Some (wrapper_flipped e) ∷ l) (held_flipped es)
 
   -- the memory after its used places were flipped and became ys
-  pub record FlippedIn (xs : List (Option (OrderWrapper O))) (n places : ℕ) (ys : List (Option (OrderWrapper O))) : Type 0 where
-    pub part : Part xs ys n places
+  pub record FlippedIn {rank : Ghosts (OrderWrapper O)} (h : RankHeap (OrderWrapper O) rank) (ys : List (Option (OrderWrapper O))) : Type 0 where
+    pub part : Part h.memory.now ys h.count h.places
     pub filled : Filled ys
-    pub bag : IsPermutation (map wrapper_flipped (entries_in (take n xs))) (entries_in ys)
+    pub bag : IsPermutation (map wrapper_flipped (entries_in (take h.count h.memory.now))) (entries_in ys)
 
-  pub flipped_in : (xs : List (Option (OrderWrapper O))) (n places : ℕ) (ys : List (Option (OrderWrapper O))) → places ≤ length xs → n ≤ places → Filled (take n xs) → IsPermutation (map (option_flipped wrapper_flipped) (take n xs)) ys
-      → FlippedIn xs n places ys
-  flipped_in xs n places ys within few filled same =
-      let was : List (Option (OrderWrapper O)) = take n xs in
-      let ylong : length ys ≡ n = length_permutation (map (option_flipped wrapper_flipped) was) ys same ∙ length-map was (option_flipped wrapper_flipped) ∙ length-take-le n xs (omega arith) in
+  pub flipped_in : {rank : Ghosts (OrderWrapper O)} (h : RankHeap (OrderWrapper O) rank) (ys : List (Option (OrderWrapper O))) → IsPermutation (map (option_flipped wrapper_flipped) (take h.count h.memory.now)) ys → FlippedIn h ys
+  flipped_in h ys same =
+      let was : List (Option (OrderWrapper O)) = take h.count h.memory.now in
+      let ylong : length ys ≡ h.count = length_permutation (map (option_flipped wrapper_flipped) was) ys same ∙ length-map was (option_flipped wrapper_flipped) ∙ length-take-le h.count h.memory.now (omega (arith, h.within, h.few)) in
       let is : map (option_flipped wrapper_flipped) was ≡ map (λ e. Some e) (map wrapper_flipped (entries_in was))
-      = ap (λ l. map (option_flipped wrapper_flipped) l) (sym (hold_all was filled)) ∙ held_flipped (entries_in was) in
+      = ap (λ l. map (option_flipped wrapper_flipped) l) (sym (hold_all was h.holding)) ∙ held_flipped (entries_in was) in
       let before = hold_from (map wrapper_flipped (entries_in was)) (map (option_flipped wrapper_flipped) was) is in
       let now = hold_shuffled (map (option_flipped wrapper_flipped) was) ys before.0 same in
       record {
-        part = part xs ys n places few within ylong;
+        part = part h.memory.now ys h.count h.places h.few h.within ylong;
         filled = length_held ys now.0;
         bag = subst (λ l. IsPermutation l (entries_in ys)) before.1 now.1;
       }

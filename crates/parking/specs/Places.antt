@@ -19,12 +19,6 @@ entries_in (Some e ∷ places) = e ∷ entries_in places
 abbrev pub Filled : {E : Type 0} → List (Option E) → Type 0
 Filled places = length (entries_in places) ≡ length places
 
--- A place gave an entry, which is out of the bag then.
-pub record Gave {E : Type 0} (bag : List E) (r : Option E) (after : List E) : Type 0 where
-  pub entry : E
-  pub is : r ≡ Some entry
-  pub rest : IsPermutation bag (entry ∷ after)
-
 -- The index of a pair, by which it ranks.
 abbrev pub index_of : {O : Type 0} → OrderWrapper O → ℕ
 index_of w = w.index

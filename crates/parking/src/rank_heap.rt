@@ -39,7 +39,6 @@ fn put_last<E: Rank + Copy>(places: &mut [Option<E>], entry: E)
 impl<'a, E: Rank + Copy> RankHeap<'a, E> {
     ghost use Rattle.std.specs.Prelude.{[], ◌∷◌, min, drop};
     ghost use Rattle.parking.specs.Held.{held, used, with_bag};
-    ghost use Rattle.parking.specs.Places.{Gave};
 
     // An empty heap in that memory, whatever it holds.
     pub fn new(memory: &'a mut [Option<E>]) -> RankHeap<'a, E>
@@ -86,15 +85,15 @@ impl<'a, E: Rank + Copy> RankHeap<'a, E> {
     }
 
     // Takes out the entry at a place.
-    pub fn take_at(&mut self, at: usize) -> Option<E>
+    pub fn take_at(&mut self, at: usize) -> E
         requires { at < self.old.count }
-        ensures gave { Gave (held self.old).bag result (held self.new).bag }
-        ensures rank { place_rank E.Rank.rank result ≡ rank_at (place_rank E.Rank.rank) (used self.old) at }
+        ensures bag { IsPermutation (held self.old).bag (result ∷ (held self.new).bag) }
+        ensures rank { place_rank E.Rank.rank (Some result) ≡ rank_at (place_rank E.Rank.rank) (used self.old) at }
         ensures rest { held self.new ≡ with_bag (held self.old) (held self.new).bag }
     {
         let end = self.count;
         self.count = end - 1;
-        move_to_end(&mut self.memory[..end], at)
+        move_to_end(&mut self.memory[..end], at).unwrap()
     }
 
     // Gives the memory back as it is.
@@ -130,7 +129,7 @@ impl<'a, O: Copy> RankHeap<'a, OrderWrapper<O>> {
         ensures rest { held self.new ≡ with_bag (held self.old) (held self.new).bag }
     {
         let at = self.find(index)?;
-        self.take_at(at).map(|pair| pair.data)
+        Some(self.take_at(at).data)
     }
 
     // Flips the top bit of every index.

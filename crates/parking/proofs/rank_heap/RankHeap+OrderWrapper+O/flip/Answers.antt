@@ -11,7 +11,7 @@ use Rattle.tasks.specs.declared.order_wrapper.OrderWrapper.{OrderWrapper}
 pub invariant_of-self : goal.invariant_of-self
 invariant_of-self g c =
     let h = c.args.self.now in
-    let f = flipped_in h.memory.now h.count h.places c.flip_in.new.places h.within h.few h.holding c.flip_in.ensures.same in
+    let f = flipped_in h c.flip_in.new.places c.flip_in.ensures.same in
     record {
       within = subst (λ n. h.places ≤ n) (sym f.part.long) h.within;
       cut = h.cut;
@@ -23,11 +23,11 @@ invariant_of-self g c =
 pub returns-clause-bag : goal.returns-clause-bag
 returns-clause-bag g c =
     let h = c.args.self.now in
-    let f = flipped_in h.memory.now h.count h.places c.flip_in.new.places h.within h.few h.holding c.flip_in.ensures.same in
+    let f = flipped_in h c.flip_in.new.places c.flip_in.ensures.same in
     subst (λ l. IsPermutation (map wrapper_flipped (entries_in (take h.count h.memory.now))) (entries_in l)) (sym f.part.used) f.bag
 
 pub returns-clause-rest : goal.returns-clause-rest
 returns-clause-rest g c =
     let h = c.args.self.now in
-    let f = flipped_in h.memory.now h.count h.places c.flip_in.new.places h.within h.few h.holding c.flip_in.ensures.same in
+    let f = flipped_in h c.flip_in.new.places c.flip_in.ensures.same in
     ap (λ (l : List (Option (OrderWrapper g.row.O.Denot))). let k : Held (OrderWrapper g.row.O.Denot) = record { bag = entries_in (take h.count (c.flip_in.new.places ++ drop h.count h.memory.now)); places = h.places; beyond = l } in k) f.part.beyond

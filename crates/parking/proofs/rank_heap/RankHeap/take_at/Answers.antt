@@ -1,9 +1,9 @@
-use Rattle.std.proofs.Common.{◌≡◌, ◌-◌, ◌≤◌, List, ◌++◌, drop, length, take, Option, sym, ap, ◌∙◌, subst, arith}
-use Rattle.parking.proofs.HeapParts.{taken_out, filled_fewer, order_fewer}
+use Rattle.std.proofs.Common.{◌≡◌, ◌-◌, ◌≤◌, List, ◌++◌, drop, length, take, is_some, Option, sym, ap, ◌∙◌, subst, arith}
+use Rattle.parking.proofs.HeapParts.{Gave, gave_it, taken_out, filled_fewer, order_fewer}
 use Rattle.parking.proofs.rank_heap.RankHeap.take_at.Goals as goal
 use Rattle.parking.specs.Heaps.{Heaped}
 use Rattle.parking.specs.Held.{Held}
-use Rattle.parking.specs.Places.{place_rank, entries_in, Filled, Gave}
+use Rattle.parking.specs.Places.{place_rank, entries_in, Filled}
 use Rattle.std.proofs.lemmas.List.{length-take-le}
 
 pub invariant_of-self : goal.invariant_of-self
@@ -27,7 +27,7 @@ invariant_of-self-2 g c =
     let h = c.args.self.now in
     let xs = h.memory.now in
     let ys = c.move_to_end.new.entries in
-    let t = taken_out g.E.Rank.rank xs h.count h.places h.within h.few h.holding c.move_to_end.result ys (omega (arith, c.requires)) c.move_to_end.ensures.same c.move_to_end.ensures.last in
+    let t = taken_out h c.move_to_end.result ys (omega (arith, c.requires)) c.move_to_end.ensures.same c.move_to_end.ensures.last in
     let last : length (take h.count xs) - 1 ≡ h.count - 1 = omega (arith, length-take-le h.count xs (omega (arith, h.within, h.few))) in
     record {
       within = subst (λ n. h.places ≤ n) (sym t.part.long) h.within;
@@ -37,15 +37,20 @@ invariant_of-self-2 g c =
       in_order = subst (λ l. Heaped (place_rank g.E.Rank.rank) l) (ap (λ n. take n ys) last ∙ sym t.used) c.move_to_end.ensures.order;
     }
 
-pub returns-clause-gave : goal.returns-clause-gave
-returns-clause-gave g c =
+pub unwrap-requires : goal.unwrap-requires
+unwrap-requires g c =
     let h = c.args.self.now in
-    let r = c.move_to_end.result in
-    let t = taken_out g.E.Rank.rank h.memory.now h.count h.places h.within h.few h.holding r c.move_to_end.new.entries (omega (arith, c.requires)) c.move_to_end.ensures.same c.move_to_end.ensures.last in
-    subst (λ l. Gave (entries_in (take h.count h.memory.now)) r (entries_in l)) (sym t.used) t.gave
+    let t = taken_out h c.move_to_end.result c.move_to_end.new.entries (omega (arith, c.requires)) c.move_to_end.ensures.same c.move_to_end.ensures.last in
+    ap is_some t.gave.is
+
+pub returns-clause-bag : goal.returns-clause-bag
+returns-clause-bag g c =
+    let h = c.args.self.now in
+    let t = taken_out h c.move_to_end.result c.move_to_end.new.entries (omega (arith, c.requires)) c.move_to_end.ensures.same c.move_to_end.ensures.last in
+    gave_it (entries_in (take h.count h.memory.now)) _ c.move_to_end.result c.unwrap.result (subst (λ l. Gave (entries_in (take h.count h.memory.now)) c.move_to_end.result (entries_in l)) (sym t.used) t.gave) c.unwrap.ensures
 
 pub returns-clause-rest : goal.returns-clause-rest
 returns-clause-rest g c =
     let h = c.args.self.now in
-    let t = taken_out g.E.Rank.rank h.memory.now h.count h.places h.within h.few h.holding c.move_to_end.result c.move_to_end.new.entries (omega (arith, c.requires)) c.move_to_end.ensures.same c.move_to_end.ensures.last in
+    let t = taken_out h c.move_to_end.result c.move_to_end.new.entries (omega (arith, c.requires)) c.move_to_end.ensures.same c.move_to_end.ensures.last in
     ap (λ (l : List (Option g.row.E.Denot)). let k : Held g.row.E.Denot = record { bag = entries_in (take (h.count - 1) (c.move_to_end.new.entries ++ drop h.count h.memory.now)); places = h.places; beyond = l } in k) t.part.beyond
