@@ -3,6 +3,7 @@ use Rattle.std.proofs.Common.{◌≡◌, ℕ, ◌+◌, ◌-◌, ◌/◌, ◌<◌
 use Rattle.parking.proofs.Holding.{AllHold, hold_all, hold_push, hold_shuffled, hold_taken, length_held, entries_append, entries_few}
 use Rattle.parking.proofs.Ranks.{rank_taken}
 use Rattle.parking.specs.Heaps.{rank_at, InOrder, Heaped}
+use Rattle.parking.specs.Held.{used}
 use Rattle.parking.specs.Places.{place_rank, entries_in, Filled}
 use Rattle.parking.specs.declared.rank.Rank.{Ghosts}
 use Rattle.parking.specs.declared.rank_heap.RankHeap.{RankHeap}
@@ -55,8 +56,8 @@ module _ {E : Type 0} where
       length_held (take k xs) (subst (λ l. AllHold l) (take-take k n xs le) (hold_taken k (take n xs) (hold_all (take n xs) filled)))
 
   module _ {rank : Ghosts E} (h : RankHeap E rank) where
-    hold : AllHold (take h.count h.memory.now)
-    hold = hold_all (take h.count h.memory.now) h.holding
+    hold : AllHold (used h)
+    hold = hold_all (used h) h.holding
 
     -- before an entry is put last
     pub order_before : h.count < h.places → InOrder (rank_at (place_rank rank.rank) (take (h.count + 1) h.memory.now)) (length (take (h.count + 1) h.memory.now) - 1)
@@ -77,7 +78,7 @@ module _ {E : Type 0} where
     pub record PutIn (e : E) (ys : List (Option E)) : Type 0 where
       pub part : Part h.memory.now ys (h.count + 1) h.places
       pub filled : Filled ys
-      pub bag : IsPermutation (e ∷ entries_in (take h.count h.memory.now)) (entries_in ys)
+      pub bag : IsPermutation (e ∷ entries_in (used h)) (entries_in ys)
 
     pub put_in : (e : E) (ys : List (Option E)) → h.count < h.places
         → IsPermutation (set (take (h.count + 1) h.memory.now) (length (take (h.count + 1) h.memory.now) - 1) (Some e)) ys → PutIn e ys
@@ -85,26 +86,26 @@ module _ {E : Type 0} where
         let was : List (Option E) = take (h.count + 1) h.memory.now in
         let long : length was ≡ h.count + 1 = length-take-le (h.count + 1) h.memory.now (omega arith) in
         let last : length was - 1 ≡ h.count = omega (arith, long) in
-        let filled : set was h.count (Some e) ≡ take h.count h.memory.now ++ Some e ∷ []
+        let filled : set was h.count (Some e) ≡ used h ++ Some e ∷ []
         = sym (take_all (h.count + 1) (set was h.count (Some e)) (omega (arith, long, length-set was h.count (Some e)))) ∙ take_more_set was h.count (Some e) (omega (arith, long)) ∙ ap (λ l. l ++ Some e ∷ []) (take-take h.count (h.count + 1) h.memory.now (omega arith)) in
-        let same2 : IsPermutation (take h.count h.memory.now ++ Some e ∷ []) ys = subst (λ l. IsPermutation l ys) filled (subst (λ k. IsPermutation (set was k (Some e)) ys) last same) in
-        let whole = hold_shuffled (take h.count h.memory.now ++ Some e ∷ []) ys (hold_push (take h.count h.memory.now) e hold) same2 in
+        let same2 : IsPermutation (used h ++ Some e ∷ []) ys = subst (λ l. IsPermutation l ys) filled (subst (λ k. IsPermutation (set was k (Some e)) ys) last same) in
+        let whole = hold_shuffled (used h ++ Some e ∷ []) ys (hold_push (used h) e hold) same2 in
         let ylong : length ys ≡ h.count + 1 = length_permutation (set was (length was - 1) (Some e)) ys same ∙ length-set was (length was - 1) (Some e) ∙ long in
-        let front : IsPermutation (e ∷ entries_in (take h.count h.memory.now)) (entries_in (take h.count h.memory.now) ++ e ∷ [])
-        = IsPermutation-sym (entries_in (take h.count h.memory.now) ++ e ∷ []) (e ∷ entries_in (take h.count h.memory.now)) (IsPermutation-to_front (entries_in (take h.count h.memory.now)) e) in
+        let front : IsPermutation (e ∷ entries_in (used h)) (entries_in (used h) ++ e ∷ [])
+        = IsPermutation-sym (entries_in (used h) ++ e ∷ []) (e ∷ entries_in (used h)) (IsPermutation-to_front (entries_in (used h)) e) in
         record {
           part = part h.memory.now ys (h.count + 1) h.places (omega arith) h.within ylong;
           filled = length_held ys whole.0;
-          bag = IsPermutation-trans (e ∷ entries_in (take h.count h.memory.now)) (entries_in (take h.count h.memory.now) ++ e ∷ []) (entries_in ys) front
-              (subst (λ l. IsPermutation l (entries_in ys)) (entries_append (take h.count h.memory.now) (Some e ∷ [])) whole.1);
+          bag = IsPermutation-trans (e ∷ entries_in (used h)) (entries_in (used h) ++ e ∷ []) (entries_in ys) front
+              (subst (λ l. IsPermutation l (entries_in ys)) (entries_append (used h) (Some e ∷ [])) whole.1);
         }
 
     -- after the last of the used h.places was taken away
     pub record TakenOut (r : Option E) (ys : List (Option E)) : Type 0 where
-      pub used : take (h.count - 1) (ys ++ drop h.count h.memory.now) ≡ take (h.count - 1) ys
+      pub front : take (h.count - 1) (ys ++ drop h.count h.memory.now) ≡ take (h.count - 1) ys
       pub part : Part h.memory.now ys h.count h.places
       pub filled : Filled (take (h.count - 1) ys)
-      pub gave : Gave (entries_in (take h.count h.memory.now)) r (entries_in (take (h.count - 1) ys))
+      pub gave : Gave (entries_in (used h)) r (entries_in (take (h.count - 1) ys))
 
     last_holds : (zs : List (Option E)) (r : Option E) (bag : List E) → AllHold (zs ++ r ∷ []) → IsPermutation bag (entries_in (zs ++ r ∷ [])) → AllHold zs × Gave bag r (entries_in zs)
     last_holds zs None bag h s =
@@ -124,16 +125,16 @@ module _ {E : Type 0} where
           },
         )
 
-    pub taken_out : (r : Option E) (ys : List (Option E)) → 0 < h.count → IsPermutation (take h.count h.memory.now) ys → ys ≡ take (length (take h.count h.memory.now) - 1) ys ++ r ∷ [] → TakenOut r ys
+    pub taken_out : (r : Option E) (ys : List (Option E)) → 0 < h.count → IsPermutation (used h) ys → ys ≡ take (length (used h) - 1) ys ++ r ∷ [] → TakenOut r ys
     taken_out r ys some same end =
-        let long : length (take h.count h.memory.now) ≡ h.count = length-take-le h.count h.memory.now (omega arith) in
-        let last : length (take h.count h.memory.now) - 1 ≡ h.count - 1 = omega (arith, long) in
-        let ylong : length ys ≡ h.count = length_permutation (take h.count h.memory.now) ys same ∙ long in
+        let long : length (used h) ≡ h.count = length-take-le h.count h.memory.now (omega arith) in
+        let last : length (used h) - 1 ≡ h.count - 1 = omega (arith, long) in
+        let ylong : length ys ≡ h.count = length_permutation (used h) ys same ∙ long in
         let end2 : ys ≡ take (h.count - 1) ys ++ r ∷ [] = end ∙ ap (λ k. take k ys ++ r ∷ []) last in
-        let whole = hold_shuffled (take h.count h.memory.now) ys hold same in
-        let split = last_holds (take (h.count - 1) ys) r (entries_in (take h.count h.memory.now)) (subst (λ l. AllHold l) end2 whole.0) (subst (λ l. IsPermutation (entries_in (take h.count h.memory.now)) (entries_in l)) end2 whole.1) in
+        let whole = hold_shuffled (used h) ys hold same in
+        let split = last_holds (take (h.count - 1) ys) r (entries_in (used h)) (subst (λ l. AllHold l) end2 whole.0) (subst (λ l. IsPermutation (entries_in (used h)) (entries_in l)) end2 whole.1) in
         record {
-          used = take-append-le (h.count - 1) ys (drop h.count h.memory.now) (omega (arith, ylong));
+          front = take-append-le (h.count - 1) ys (drop h.count h.memory.now) (omega (arith, ylong));
           part = part h.memory.now ys h.count h.places h.few h.within ylong;
           filled = length_held (take (h.count - 1) ys) split.0;
           gave = split.1;

@@ -2,6 +2,7 @@
 use Rattle.std.proofs.Common.{◌≡◌, ℕ, ◌<◌, ◌≤◌, List, [], ◌∷◌, ◌++◌, map, length, take, Some, None, Option, sym, refl, ap, ◌∙◌, subst, arith}
 use Rattle.parking.proofs.Ranks.{map_exchanged}
 use Rattle.parking.specs.Places.{entries_in}
+use Rattle.std.proofs.lemmas.List.Elements.{filter_map-append}
 use Rattle.std.proofs.lemmas.List.{length-map, map-append, take-map}
 use Rattle.std.proofs.lemmas.List.Sorted.{IsPermutation-refl, IsPermutation-trans, IsPermutation-swap, IsPermutation-keeps}
 use Rattle.std.specs.List.Sorted.{IsPermutation}
@@ -33,9 +34,7 @@ module _ {E : Type 0} where
   length_held ps h = sym (length-map (entries_in ps) (λ e. Some e)) ∙ ap length h
 
   pub entries_append : (ps qs : List (Option E)) → entries_in (ps ++ qs) ≡ entries_in ps ++ entries_in qs
-  entries_append [] qs = refl
-  entries_append (None ∷ ps) qs = entries_append ps qs
-  entries_append (Some e ∷ ps) qs = ap (λ l. e ∷ l) (entries_append ps qs)
+  entries_append ps qs = filter_map-append (λ p. p) ps qs
 
   pub entries_few : (ps : List (Option E)) → length (entries_in ps) ≤ length ps
   entries_few [] = omega arith

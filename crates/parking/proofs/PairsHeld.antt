@@ -1,9 +1,10 @@
 -- Pairs in a heap: the one with an index is taken out, and all are flipped.
-use Rattle.std.proofs.Common.{◌≡◌, ℕ, suc, ◌<◌, ◌≤◌, Bool, false, cond, eqb, List, [], ◌∷◌, map, length, take, Some, None, count_by, Option, sym, refl, ap, ◌∙◌, subst, arith}
+use Rattle.std.proofs.Common.{◌≡◌, ℕ, suc, ◌<◌, Bool, false, cond, eqb, List, [], ◌∷◌, map, length, Some, None, count_by, Option, sym, refl, ap, ◌∙◌, subst, arith}
 use Rattle.parking.proofs.HeapParts.{Part, part}
 use Rattle.parking.proofs.Holding.{hold_all, hold_shuffled, hold_from, length_held}
 use Rattle.parking.specs.Bags.{bears_index, Taken}
 use Rattle.parking.specs.Heaps.{rank_at}
+use Rattle.parking.specs.Held.{used}
 use Rattle.parking.specs.Places.{place_rank, index_of, entries_in, Filled, FoundAt}
 use Rattle.parking.specs.declared.rank.Rank.{Ghosts}
 use Rattle.parking.specs.declared.rank_heap.RankHeap.{RankHeap}
@@ -57,11 +58,11 @@ module _ {O : Type 0} where
   pub record FlippedIn {rank : Ghosts (OrderWrapper O)} (h : RankHeap (OrderWrapper O) rank) (ys : List (Option (OrderWrapper O))) : Type 0 where
     pub part : Part h.memory.now ys h.count h.places
     pub filled : Filled ys
-    pub bag : IsPermutation (map wrapper_flipped (entries_in (take h.count h.memory.now))) (entries_in ys)
+    pub bag : IsPermutation (map wrapper_flipped (entries_in (used h))) (entries_in ys)
 
-  pub flipped_in : {rank : Ghosts (OrderWrapper O)} (h : RankHeap (OrderWrapper O) rank) (ys : List (Option (OrderWrapper O))) → IsPermutation (map (option_flipped wrapper_flipped) (take h.count h.memory.now)) ys → FlippedIn h ys
+  pub flipped_in : {rank : Ghosts (OrderWrapper O)} (h : RankHeap (OrderWrapper O) rank) (ys : List (Option (OrderWrapper O))) → IsPermutation (map (option_flipped wrapper_flipped) (used h)) ys → FlippedIn h ys
   flipped_in h ys same =
-      let was : List (Option (OrderWrapper O)) = take h.count h.memory.now in
+      let was : List (Option (OrderWrapper O)) = used h in
       let ylong : length ys ≡ h.count = length_permutation (map (option_flipped wrapper_flipped) was) ys same ∙ length-map was (option_flipped wrapper_flipped) ∙ length-take-le h.count h.memory.now (omega (arith, h.within, h.few)) in
       let is : map (option_flipped wrapper_flipped) was ≡ map (λ e. Some e) (map wrapper_flipped (entries_in was))
       = ap (λ l. map (option_flipped wrapper_flipped) l) (sym (hold_all was h.holding)) ∙ held_flipped (entries_in was) in

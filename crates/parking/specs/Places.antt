@@ -1,7 +1,7 @@
 -- Parking places, some of which hold an entry.
-use Rattle.std.specs.Prelude.{◌≡◌, ℕ, suc, ◌<◌, List, [], ◌∷◌, length, Some, None, Option, ◌≢◌}
+use Rattle.std.specs.Prelude.{◌≡◌, ℕ, suc, ◌<◌, List, length, Some, None, Option, ◌≢◌}
 use Rattle.parking.specs.Heaps.{rank_at}
-use Rattle.std.specs.List.Sorted.{IsPermutation}
+use Rattle.std.specs.List.{filter_map}
 use Rattle.tasks.specs.declared.order_wrapper.OrderWrapper.{OrderWrapper}
 
 -- An empty place ranks below any that holds an entry.
@@ -11,9 +11,7 @@ place_rank rank (Some e) = suc (rank e)
 
 -- The entries that places hold.
 abbrev pub entries_in : {E : Type 0} → List (Option E) → List E
-entries_in [] = []
-entries_in (None ∷ places) = entries_in places
-entries_in (Some e ∷ places) = e ∷ entries_in places
+entries_in places = filter_map (λ place. place) places
 
 -- Each place holds an entry.
 abbrev pub Filled : {E : Type 0} → List (Option E) → Type 0

@@ -2,7 +2,7 @@ use Rattle.std.proofs.Common.{◌≤◌, List, ◌++◌, drop, map, take, Option
 use Rattle.parking.proofs.PairsHeld.{flipped_in}
 use Rattle.parking.proofs.rank_heap.RankHeap+OrderWrapper+O.flip.Goals as goal
 use Rattle.parking.specs.Heaps.{Heaped}
-use Rattle.parking.specs.Held.{Held}
+use Rattle.parking.specs.Held.{Held, used}
 use Rattle.parking.specs.Places.{place_rank, index_of, entries_in, Filled}
 use Rattle.std.specs.List.Sorted.{IsPermutation}
 use Rattle.tasks.specs.Orders.{wrapper_flipped}
@@ -24,7 +24,7 @@ pub returns-clause-bag : goal.returns-clause-bag
 returns-clause-bag g c =
     let h = c.args.self.now in
     let f = flipped_in h c.flip_in.new.places c.flip_in.ensures.same in
-    subst (λ l. IsPermutation (map wrapper_flipped (entries_in (take h.count h.memory.now))) (entries_in l)) (sym f.part.used) f.bag
+    subst (λ l. IsPermutation (map wrapper_flipped (entries_in (used h))) (entries_in l)) (sym f.part.used) f.bag
 
 pub returns-clause-rest : goal.returns-clause-rest
 returns-clause-rest g c =

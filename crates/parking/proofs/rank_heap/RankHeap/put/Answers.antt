@@ -2,7 +2,7 @@ use Rattle.std.proofs.Common.{◌+◌, ◌≤◌, List, ◌∷◌, ◌++◌, dro
 use Rattle.parking.proofs.HeapParts.{put_in, order_before}
 use Rattle.parking.proofs.rank_heap.RankHeap.put.Goals as goal
 use Rattle.parking.specs.Heaps.{Heaped}
-use Rattle.parking.specs.Held.{Held}
+use Rattle.parking.specs.Held.{Held, used}
 use Rattle.parking.specs.Places.{place_rank, entries_in, Filled}
 use Rattle.std.proofs.lemmas.List.{length-take-le}
 use Rattle.std.specs.List.Sorted.{IsPermutation}
@@ -30,7 +30,7 @@ pub returns-clause-bag : goal.returns-clause-bag
 returns-clause-bag g c =
     let h = c.args.self.now in
     let p = put_in h c.args.entry c.put_last.new.places c.requires c.put_last.ensures.same in
-    subst (λ l. IsPermutation (c.args.entry ∷ (entries_in (take h.count h.memory.now))) (entries_in l)) (sym p.part.used) p.bag
+    subst (λ l. IsPermutation (c.args.entry ∷ (entries_in (used h))) (entries_in l)) (sym p.part.used) p.bag
 
 pub returns-clause-rest : goal.returns-clause-rest
 returns-clause-rest g c =

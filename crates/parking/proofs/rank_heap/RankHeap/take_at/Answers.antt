@@ -2,7 +2,7 @@ use Rattle.std.proofs.Common.{◌≡◌, ◌-◌, ◌≤◌, List, ◌++◌, dro
 use Rattle.parking.proofs.HeapParts.{Gave, gave_it, taken_out, filled_fewer, order_fewer}
 use Rattle.parking.proofs.rank_heap.RankHeap.take_at.Goals as goal
 use Rattle.parking.specs.Heaps.{Heaped}
-use Rattle.parking.specs.Held.{Held}
+use Rattle.parking.specs.Held.{Held, used}
 use Rattle.parking.specs.Places.{place_rank, entries_in, Filled}
 use Rattle.std.proofs.lemmas.List.{length-take-le}
 
@@ -33,8 +33,8 @@ invariant_of-self-2 g c =
       within = subst (λ n. h.places ≤ n) (sym t.part.long) h.within;
       cut = h.cut;
       few = omega (arith, h.few);
-      holding = subst (λ l. Filled l) (sym t.used) t.filled;
-      in_order = subst (λ l. Heaped (place_rank g.E.Rank.rank) l) (ap (λ n. take n ys) last ∙ sym t.used) c.move_to_end.ensures.order;
+      holding = subst (λ l. Filled l) (sym t.front) t.filled;
+      in_order = subst (λ l. Heaped (place_rank g.E.Rank.rank) l) (ap (λ n. take n ys) last ∙ sym t.front) c.move_to_end.ensures.order;
     }
 
 pub unwrap-requires : goal.unwrap-requires
@@ -47,7 +47,7 @@ pub returns-clause-bag : goal.returns-clause-bag
 returns-clause-bag g c =
     let h = c.args.self.now in
     let t = taken_out h c.move_to_end.result c.move_to_end.new.entries (omega (arith, c.requires)) c.move_to_end.ensures.same c.move_to_end.ensures.last in
-    gave_it (entries_in (take h.count h.memory.now)) _ c.move_to_end.result c.unwrap.result (subst (λ l. Gave (entries_in (take h.count h.memory.now)) c.move_to_end.result (entries_in l)) (sym t.used) t.gave) c.unwrap.ensures
+    gave_it (entries_in (used h)) _ c.move_to_end.result c.unwrap.result (subst (λ l. Gave (entries_in (used h)) c.move_to_end.result (entries_in l)) (sym t.front) t.gave) c.unwrap.ensures
 
 pub returns-clause-rest : goal.returns-clause-rest
 returns-clause-rest g c =
