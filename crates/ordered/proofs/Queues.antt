@@ -4,6 +4,8 @@ use Rattle.ordered.proofs.Counts.{one_if, count_cons, count_map}
 use Rattle.ordered.proofs.Lines.{held_placed, push_line, flip_line, park_line, poll_turn, line_step, apart_lined, within_lined, ahead_lined}
 use Rattle.ordered.proofs.Parkings.{count_ascending, count_parked_with, Apart, ascending_shuffled, ascending_map, ascending_least, all_from_ascending, apart_flipped}
 use Rattle.ordered.proofs.Rows.{in_row, length_numbered}
+use Rattle.ordered.specs.declared.task_set.TaskSet.{Ghosts as TaskSet}
+use Rattle.parking.specs.declared.parking.Parking.{Ghosts as Parking}
 use Rattle.ordered.specs.Below.{Below, Label, label, leave_of, unwrapped}
 use Rattle.ordered.specs.BoundedBelow.{no_ticket}
 use Rattle.ordered.specs.Deques.{joined_if, taken_by, fed}
@@ -67,7 +69,28 @@ pub put_then : {O : Type 0} (places : ℕ) (w : OrderWrapper O) (bag : List (Ord
 put_then places w bag (Ok u) after done fits = done
 put_then places w bag (Err x) after done fits = absurd (done.2 fits)
 
-module _ {M Q F O R : Type 0} (b : Below M Q F O) (full : ℕ → ℕ → Fault) (Inv : M → Type 0) (labels : M → List Label) where
+module _ {S P F O : Type 0} (T : TaskSet S F O) (K : Parking P O) where
+  abbrev M : Type 0
+  M = T.Model
+
+  abbrev Q : Type 0
+  Q = T.Ask
+
+  abbrev R : Type 0
+  R = K.Rest
+
+  abbrev b : Below M Q F O
+  b = T.below
+
+  abbrev full : ℕ → ℕ → Fault
+  full = K.full
+
+  abbrev Inv : M → Type 0
+  Inv = T.Inv
+
+  abbrev labels : M → List Label
+  labels = T.labels
+
   -- as many are held as there are places, at most
   pub held_few : (s : Ordered M O R) → Kept b Inv labels s → (held b full s ≤ s.places) × (s.places ≤ 65536)
   held_few s k = (held_placed b full no_ticket no_ticket Inv labels labels k.tickets k.flips s k.deque k.lined, k.lined.most)

@@ -3,6 +3,8 @@ use Rattle.std.proofs.Common.{◌≡◌, ℕ, suc, ◌+◌, ◌-◌, ◌*◌, �
 use Rattle.ordered.proofs.Lines.{park_line, fewer_below, held_placed, polling_turn}
 use Rattle.ordered.proofs.Parkings.{NoneAt, none_at_parked}
 use Rattle.ordered.proofs.Queues.{settled_parked}
+use Rattle.ordered.specs.declared.task_set.TaskSet.{Ghosts as TaskSet}
+use Rattle.parking.specs.declared.parking.Parking.{Ghosts as Parking}
 use Rattle.ordered.specs.Below.{Below, Label}
 use Rattle.ordered.specs.BoundedBelow.{no_ticket}
 use Rattle.ordered.specs.Deques.{taken_by}
@@ -22,7 +24,28 @@ abbrev pub ended : {M O R : Type 0} → (Ordered M O R → Outcome M O R) → Op
 ended go (Some p) s n t = record { answer = record { poll = p; notices = n; turns = t }; set = s }
 ended go None s n t = go s
 
-module _ {M Q F O R : Type 0} (b : Below M Q F O) (full : ℕ → ℕ → Fault) (Inv : M → Type 0) (labels : M → List Label) (post : List ℕ) where
+module _ {S P F O : Type 0} (T : TaskSet S F O) (K : Parking P O) (post : List ℕ) where
+  abbrev M : Type 0
+  M = T.Model
+
+  abbrev Q : Type 0
+  Q = T.Ask
+
+  abbrev R : Type 0
+  R = K.Rest
+
+  abbrev b : Below M Q F O
+  b = T.below
+
+  abbrev full : ℕ → ℕ → Fault
+  full = K.full
+
+  abbrev Inv : M → Type 0
+  Inv = T.Inv
+
+  abbrev labels : M → List Label
+  labels = T.labels
+
   abbrev tasks : Ordered M O R → ℕ
   tasks s = b.kind.number s.below b.len
 

@@ -13,5 +13,5 @@ returns g c =
     record {
       answer = c.hand.ensures.answer;
       after = after;
-      sound = call_sound g.S.TaskSet.below g.P.Parking.full g.S.TaskSet.Inv g.S.TaskSet.labels s _ (Hand c.args.address) c.requires after;
+      sound = call_sound g.S.TaskSet g.P.Parking s _ (Hand c.args.address) c.requires after;
     }

@@ -8,7 +8,7 @@ use Rattle.tasks.specs.Orders.{index_flipped, top_bit}
 pub unwrap-requires : goal.unwrap-requires
 unwrap-requires g c =
     let q = c.args.self.now in
-    flips g.S.TaskSet.below g.P.Parking.full g.S.TaskSet.Inv g.S.TaskSet.labels (line_of g.S.TaskSet g.P.Parking q) (g.P.Parking.bag q.queued_outputs) c.requires refl c.if-self-ge-MSB.true c.flip.result _ c.flip.ensures.bag
+    flips g.S.TaskSet g.P.Parking (line_of g.S.TaskSet g.P.Parking q) (g.P.Parking.bag q.queued_outputs) c.requires refl c.if-self-ge-MSB.true c.flip.result _ c.flip.ensures.bag
 
 pub returns-then-self-ge-MSB : goal.returns-then-self-ge-MSB
 returns-then-self-ge-MSB g c =
@@ -20,5 +20,5 @@ returns-then-self-ge-MSB g c =
     let after = line (record { in_progress_queue = c.flip-then-self-ge-MSB.new.self; queued_outputs = p; next_incoming_index = c.flip-self-then-self-ge-MSB.result; next_outgoing_index = c.flip-self.result }) in
     let to = order_same (g.S.TaskSet.model c.flip-then-self-ge-MSB.new.self) (g.S.TaskSet.below.flipped s.below) (ascending flat) (ascending flat) (g.P.Parking.places p) s.places c.flip-self-then-self-ge-MSB.result (index_flipped s.incoming) c.flip-self.result (index_flipped s.outgoing) (g.P.Parking.rest p) s.beyond
     c.flip-then-self-ge-MSB.ensures refl c.flip.ensures.places c.flip-self-then-self-ge-MSB.ensures c.flip-self.ensures c.flip.ensures.rest in
-    let all = housekept_is g.S.TaskSet.below g.P.Parking.full g.S.TaskSet.Inv g.S.TaskSet.labels s (g.P.Parking.bag q.queued_outputs) c.requires refl c.if-self-ge-MSB.true c.flip.result flat after c.flip.ensures.bag to in
+    let all = housekept_is g.S.TaskSet g.P.Parking s (g.P.Parking.bag q.queued_outputs) c.requires refl c.if-self-ge-MSB.true c.flip.result flat after c.flip.ensures.bag to in
     record { after = all.0; sound = all.1; low = ap top_bit c.flip-self.ensures ∙ all.2 }

@@ -28,14 +28,14 @@ returns-in-Some g c =
     let p = c.take.new.self in
     let e = c.in-Some.ensures in
     let bag = g.P.Parking.bag p in
-    let first = taken_first g.S.TaskSet.below g.P.Parking.full g.S.TaskSet.Inv g.S.TaskSet.labels h (g.P.Parking.bag q.queued_outputs) bag c.in-Some.output c.housekeep.ensures.sound refl c.housekeep.ensures.low e.bag in
+    let first = taken_first g.S.TaskSet g.P.Parking h (g.P.Parking.bag q.queued_outputs) bag c.in-Some.output c.housekeep.ensures.sound refl c.housekeep.ensures.low e.bag in
     let to = order_same h.below h.below (ascending bag) (ascending bag) (g.P.Parking.places p) h.places h.incoming h.incoming (index_raised h.outgoing) (index_raised h.outgoing) (g.P.Parking.rest p) h.beyond
     refl refl e.places refl refl e.rest in
-    let both = yields_parked g.S.TaskSet.below g.P.Parking.full g.S.TaskSet.Inv g.S.TaskSet.labels s h (record { below = h.below; parked = ascending bag; places = g.P.Parking.places p; incoming = h.incoming; outgoing = index_raised h.outgoing; beyond = g.P.Parking.rest p }) c.args.post.now c.in-Some.output (ascending bag) c.housekeep.ensures.after first.0 first.1 to in
+    let both = yields_parked g.S.TaskSet g.P.Parking s h (record { below = h.below; parked = ascending bag; places = g.P.Parking.places p; incoming = h.incoming; outgoing = index_raised h.outgoing; beyond = g.P.Parking.rest p }) c.args.post.now c.in-Some.output (ascending bag) c.housekeep.ensures.after first.0 first.1 to in
     record {
       answer = both.0;
       after = both.1;
-      sound = poll_sound g.S.TaskSet.below g.P.Parking.full g.S.TaskSet.Inv g.S.TaskSet.labels s _ c.args.post.now c.requires both.1;
+      sound = poll_sound g.S.TaskSet g.P.Parking s _ c.args.post.now c.requires both.1;
     }
 
 pub returns-in-None : goal.returns-in-None
@@ -50,7 +50,7 @@ returns-in-None g c =
     let same = order_same h.below h.below (ascending (g.P.Parking.bag p)) h.parked (g.P.Parking.places p) h.places h.incoming h.incoming h.outgoing h.outgoing (g.P.Parking.rest p) h.beyond
     refl (ap ascending e.bag.1) e.places refl refl e.rest in
     let none = none_bears h.outgoing h.parked (count_ascending (bears_index h.outgoing) (g.P.Parking.bag q.queued_outputs) ∙ e.bag.0) in
-    let is = polls_tasks g.S.TaskSet.below g.P.Parking.full g.S.TaskSet.Inv g.S.TaskSet.labels s h t c.args.post.now c.housekeep.ensures.after same none in
+    let is = polls_tasks g.S.TaskSet g.P.Parking s h t c.args.post.now c.housekeep.ensures.after same none in
     record {
       answer = c.poll_tasks.ensures.answer ∙ ap (λ (o : Outcome _ _ _). o.answer) (sym is);
       after = c.poll_tasks.ensures.after ∙ ap (λ (o : Outcome _ _ _). o.set) (sym is);

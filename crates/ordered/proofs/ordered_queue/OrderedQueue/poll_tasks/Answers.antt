@@ -7,14 +7,14 @@ use Rattle.ordered.specs.Queue.{line_of}
 pub loop-poll-init : goal.loop-poll-init
 loop-poll-init g c =
     let s = line_of g.S.TaskSet g.P.Parking c.args.self.now in
-    begins g.S.TaskSet.below g.P.Parking.full g.S.TaskSet.Inv g.S.TaskSet.labels c.args.post.now s c.requires.0 c.requires.1.0 (none_at s.outgoing s.parked c.requires.1.1)
+    begins g.S.TaskSet g.P.Parking c.args.post.now s c.requires.0 c.requires.1.0 (none_at s.outgoing s.parked c.requires.1.1)
 
 pub returns-in-Some : goal.returns-in-Some
 returns-in-Some g c =
     let line = line_of g.S.TaskSet g.P.Parking in
     let s = line c.args.self.now in
     let r = c.round-poll in
-    let all = finishes g.S.TaskSet.below g.P.Parking.full g.S.TaskSet.Inv g.S.TaskSet.labels c.args.post.now s (line c.loop-poll.self) (line r.new.self) c.loop-poll.notices c.loop-poll.turns r.result.notices r.result.turns c.in-Some.poll
+    let all = finishes g.S.TaskSet g.P.Parking c.args.post.now s (line c.loop-poll.self) (line r.new.self) c.loop-poll.notices c.loop-poll.turns r.result.notices r.result.turns c.in-Some.poll
     c.requires.0 (none_at s.outgoing s.parked c.requires.1.1) c.loop-poll.invariant r.ensures.notices r.ensures.turns (sym c.in-Some.is ∙ r.ensures.answer) r.ensures.after in
     record { answer = all.0; after = all.1; sound = all.2 }
 
@@ -22,12 +22,12 @@ pub loop-poll-smaller : goal.loop-poll-smaller
 loop-poll-smaller g c =
     let line = line_of g.S.TaskSet g.P.Parking in
     let r = c.round-poll in
-    (goes_on g.S.TaskSet.below g.P.Parking.full g.S.TaskSet.Inv g.S.TaskSet.labels c.args.post.now (line c.args.self.now) (line c.loop-poll.self) (line r.new.self) c.loop-poll.notices c.loop-poll.turns r.result.notices r.result.turns
+    (goes_on g.S.TaskSet g.P.Parking c.args.post.now (line c.args.self.now) (line c.loop-poll.self) (line r.new.self) c.loop-poll.notices c.loop-poll.turns r.result.notices r.result.turns
     c.loop-poll.invariant r.ensures.notices r.ensures.turns r.ensures.few_notices r.ensures.few_turns (sym c.in_default.is ∙ r.ensures.answer) r.ensures.after).1
 
 pub loop-poll-preserved : goal.loop-poll-preserved
 loop-poll-preserved g c =
     let line = line_of g.S.TaskSet g.P.Parking in
     let r = c.round-poll in
-    (goes_on g.S.TaskSet.below g.P.Parking.full g.S.TaskSet.Inv g.S.TaskSet.labels c.args.post.now (line c.args.self.now) (line c.loop-poll.self) (line r.new.self) c.loop-poll.notices c.loop-poll.turns r.result.notices r.result.turns
+    (goes_on g.S.TaskSet g.P.Parking c.args.post.now (line c.args.self.now) (line c.loop-poll.self) (line r.new.self) c.loop-poll.notices c.loop-poll.turns r.result.notices r.result.turns
     c.loop-poll.invariant r.ensures.notices r.ensures.turns r.ensures.few_notices r.ensures.few_turns (sym c.in_default.is ∙ r.ensures.answer) r.ensures.after).0

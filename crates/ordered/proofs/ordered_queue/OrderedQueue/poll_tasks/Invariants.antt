@@ -4,7 +4,7 @@ use Rattle.ordered.specs.Queue.{line_of}
 
 abbrev pub invariant-loop-poll : goal.invariant-loop-poll
 invariant-loop-poll g l =
-    SoFar g.S.TaskSet.below g.P.Parking.full g.S.TaskSet.Inv g.S.TaskSet.labels l.post
+    SoFar g.S.TaskSet g.P.Parking l.post
     (line_of g.S.TaskSet g.P.Parking l.initial.self)
     (line_of g.S.TaskSet g.P.Parking l.self) l.notices l.turns
 

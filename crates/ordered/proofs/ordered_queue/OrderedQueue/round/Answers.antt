@@ -9,5 +9,5 @@ pub settle-requires : goal.settle-requires
 settle-requires g c = λ ne.
     let q = c.args.self.now in
     let r = c.in-Ready-Some in
-    fits_round g.S.TaskSet.below g.P.Parking.full g.S.TaskSet.Inv g.S.TaskSet.labels (line_of g.S.TaskSet g.P.Parking q) (g.P.Parking.bag q.queued_outputs) c.args.post.now r.output c.requires.0 refl c.requires.1
+    fits_round g.S.TaskSet g.P.Parking (line_of g.S.TaskSet g.P.Parking q) (g.P.Parking.bag q.queued_outputs) c.args.post.now r.output c.requires.0 refl c.requires.1
     (ap (λ (p : Polled _). p.poll) (sym c.poll-poll.ensures.answer) ∙ r.is ∙ ap (λ x. Ready x) r.field-0-is)

@@ -13,5 +13,5 @@ returns g c =
     record {
       answer = c.wake_by_ref.ensures.answer;
       after = after;
-      sound = call_sound g.S.TaskSet.below g.P.Parking.full g.S.TaskSet.Inv g.S.TaskSet.labels s _ (WakeByRef c.args.token.now) c.requires after;
+      sound = call_sound g.S.TaskSet g.P.Parking s _ (WakeByRef c.args.token.now) c.requires after;
     }

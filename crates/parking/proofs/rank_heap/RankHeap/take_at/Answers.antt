@@ -17,11 +17,6 @@ invariant_of-self g c =
       in_order = order_fewer g.E.Rank.rank h.memory.now (h.count - 1) h.count (omega arith) (omega (arith, h.within, h.few)) h.in_order;
     }
 
-pub move_to_end-requires : goal.move_to_end-requires
-move_to_end-requires g c =
-    let h = c.args.self.now in
-    (omega (arith, c.requires, length-take-le h.count h.memory.now (omega (arith, h.within, h.few))), h.in_order)
-
 pub invariant_of-self-2 : goal.invariant_of-self-2
 invariant_of-self-2 g c =
     let h = c.args.self.now in
