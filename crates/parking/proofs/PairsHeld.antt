@@ -2,7 +2,7 @@
 use Rattle.std.proofs.Common.{◌≡◌, ℕ, suc, ◌<◌, Bool, false, cond, eqb, List, [], ◌∷◌, map, length, Some, None, count_by, Option, sym, refl, ap, ◌∙◌, subst, arith}
 use Rattle.parking.proofs.HeapParts.{Part, part}
 use Rattle.parking.proofs.Holding.{hold_all, hold_shuffled, hold_from, length_held}
-use Rattle.parking.specs.Bags.{bears_index, Taken}
+use Rattle.parking.specs.Bags.{bears_index}
 use Rattle.parking.specs.Heaps.{rank_at}
 use Rattle.parking.specs.Held.{used}
 use Rattle.parking.specs.Places.{place_rank, index_of, entries_in, Filled, FoundAt}
@@ -42,13 +42,6 @@ module _ {O : Type 0} where
       let s = sum_by-cons (λ x. cond (bears_index i x) 1 0) w (entries_in ps) in
       let z : ◌≡◌ {A = ℕ} (cond (bears_index i w) 1 0) 0 = ap (λ (b : Bool). cond b 1 0) ne in
       omega (arith, s, z, rest)
-
-  -- what was given has the index
-  pub took : (bag after : List (OrderWrapper O)) (i : ℕ) (w : OrderWrapper O) → IsPermutation bag (w ∷ after) → suc w.index ≡ suc i → Taken i bag (Some w.«data») after
-  took bag after i w same e =
-      let at : w.index ≡ i = omega (arith, e) in
-      let pair : w ≡ record { «data» = w.«data»; index = i } = ap (λ (n : ℕ). let v : OrderWrapper O = record { «data» = w.«data»; index = n } in v) at in
-      subst (λ v. IsPermutation bag (v ∷ after)) pair same
 
   held_flipped : (es : List (OrderWrapper O)) → map (option_flipped wrapper_flipped) (map (λ e. Some e) es) ≡ map (λ e. Some e) (map wrapper_flipped es)
   held_flipped [] = refl
