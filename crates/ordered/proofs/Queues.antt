@@ -4,22 +4,26 @@ use Rattle.ordered.proofs.Counts.{one_if, count_cons, count_map}
 use Rattle.ordered.proofs.Lines.{held_placed, push_line, flip_line, park_line, poll_turn, line_step, apart_lined, within_lined, ahead_lined}
 use Rattle.ordered.proofs.Parkings.{count_ascending, count_parked_with, Apart, ascending_shuffled, ascending_map, ascending_least, all_from_ascending, apart_flipped}
 use Rattle.ordered.proofs.Rows.{in_row, length_numbered}
-use Rattle.ordered.specs.Below.{Below, Label, label, refusal_of, unwrapped}
+use Rattle.ordered.specs.declared.task_set.TaskSet.{Ghosts as TaskSet}
+use Rattle.parking.specs.declared.parking.Parking.{Ghosts as Parking}
+use Rattle.ordered.specs.Below.{Below, Label, label, leave_of, unwrapped}
 use Rattle.ordered.specs.BoundedBelow.{no_ticket}
 use Rattle.ordered.specs.Deques.{joined_if, taken_by, fed}
 use Rattle.ordered.specs.Lined.{Lined}
-use Rattle.ordered.specs.Ordered.{Ordered, Outcome, Pushing, Side, back, front, room_for, held, incoming_after, outgoing_after, wrapped, accepting, accepts, pushed_if, pushed, flipped_if, housekept, with_parked, from_parked, polled_by_turn, outcome, ascending, parked_with, bearing_index, without_index, with_below, step}
-use Rattle.ordered.specs.Queue.{Sound, PushedBy, Secured, Accepting}
+use Rattle.ordered.specs.Ordered.{Ordered, Outcome, Pushing, Side, room_for, held, index_for, incoming_after, outgoing_after, wrapped, accepting, accepts, pushed_if, pushed, flipped_if, housekept, with_parked, from_parked, polled_by_turn, outcome, ascending, parked_with, bearing_index, without_index, with_below, step}
+use Rattle.ordered.specs.Queue.{Kept, PushedBy, PutUnder, Accepting}
 use Rattle.ordered.specs.Rounds.{settled}
-use Rattle.parking.specs.Bags.{Fits, Flipped, bears_index, in_run, pair}
+use Rattle.parking.specs.declared.parking.Unfit.{Unfit}
+use Rattle.parking.specs.Bags.{Fits, Put, Flipped, bears_index, in_run, pair}
 use Rattle.runs.proofs.TicketRuns.{count_all}
 use Rattle.runs.specs.Calls.{Call, entry}
 use Rattle.runs.specs.Tokens.{leaves}
 use Rattle.std.proofs.lemmas.Bool.{leb-false, le-leb, lt-leb, eq-eqb, cases_Bool, cond-true, cond-false, cond_both}
 use Rattle.std.proofs.ByRecursion.{all_shuffled}
 use Rattle.std.specs.List.Sorted.{IsPermutation}
+use Rattle.std.specs.Result.{IsOk}
 use Rattle.std.specs.List.{AllByRecursion as All}
-use Rattle.tasks.specs.Orders.{index_raised, index_lowered, index_flipped, top_bit, wrapper_flipped}
+use Rattle.tasks.specs.Orders.{index_raised, index_flipped, top_bit, wrapper_flipped}
 use Rattle.tasks.specs.declared.fault.Fault.{Fault}
 use Rattle.tasks.specs.declared.fault.Refused.{Refused}
 use Rattle.tasks.specs.declared.order_wrapper.OrderWrapper.{OrderWrapper}
@@ -61,13 +65,34 @@ pub leaves_below : {M O R : Type 0} (s : Ordered M O R) (o : Option Fault) (t : 
 leaves_below s None t = refl
 leaves_below s (Some f) t = refl
 
-flipped_then : {O : Type 0} (places : ℕ) (bag : List (OrderWrapper O)) (ok : Bool) (after : List (OrderWrapper O)) → Flipped places bag ok after → Fits places (map wrapper_flipped bag) → IsPermutation (map wrapper_flipped bag) after
-flipped_then places bag true after done fits = done
-flipped_then places bag false after done fits = absurd (done.1 fits)
+pub put_then : {O : Type 0} (places : ℕ) (w : OrderWrapper O) (bag : List (OrderWrapper O)) (r : Result (Unit {0}) O) (after : List (OrderWrapper O)) → Put places w.index w.«data» bag r after → Fits places (w ∷ bag) → IsPermutation (w ∷ bag) after
+put_then places w bag (Ok u) after done fits = done
+put_then places w bag (Err x) after done fits = absurd (done.2 fits)
 
-module _ {M Q F O R : Type 0} (b : Below M Q F O) (full : ℕ → ℕ → Fault) (Inv : M → Type 0) (labels : M → List Label) where
+module _ {S P F O : Type 0} (T : TaskSet S F O) (K : Parking P O) where
+  abbrev M : Type 0
+  M = T.Model
+
+  abbrev Q : Type 0
+  Q = T.Ask
+
+  abbrev R : Type 0
+  R = K.Rest
+
+  abbrev b : Below M Q F O
+  b = T.below
+
+  abbrev full : ℕ → ℕ → Fault
+  full = K.full
+
+  abbrev Inv : M → Type 0
+  Inv = T.Inv
+
+  abbrev labels : M → List Label
+  labels = T.labels
+
   -- as many are held as there are places, at most
-  pub held_few : (s : Ordered M O R) → Sound b Inv labels s → (held b full s ≤ s.places) × (s.places ≤ 65536)
+  pub held_few : (s : Ordered M O R) → Kept b Inv labels s → (held b full s ≤ s.places) × (s.places ≤ 65536)
   held_few s k = (held_placed b full no_ticket no_ticket Inv labels labels k.tickets k.flips s k.deque k.lined, k.lined.most)
 
   -- a push that finds a place
@@ -78,18 +103,18 @@ module _ {M Q F O R : Type 0} (b : Below M Q F O) (full : ℕ → ℕ → Fault)
     cut : room_for push ≡ room
     cut = omega (arith, most)
 
-    answer_ok : (x : Result ℕ (Refused (OrderWrapper F))) → refusal_of x ≡ None → ltb (held b full s) room ≡ true → (unwrapped x ≡ accepting b full s push x) × (is_ok (accepting b full s push x) ≡ true)
+    answer_ok : (x : Result ℕ (Refused (OrderWrapper F))) → leave_of x ≡ Ok tt → ltb (held b full s) room ≡ true → (unwrapped x ≡ accepting b full s push x) × (is_ok (accepting b full s push x) ≡ true)
     answer_ok (Ok a) none fits =
         let e : ltb (held b full s) (room_for push) ≡ true = ap (λ n. ltb (held b full s) n) cut ∙ fits in
         let c = cond-true (ltb (held b full s) (room_for push)) (Ok a) (Err (record { fault = full s.places (held b full s); input = task })) e in
         (sym c, ap is_ok c)
     answer_ok (Err r) none fits = let z : ◌≡◌ {A = ℕ} 0 1 = cc in absurd (omega arith)
 
-    pub push_ok : (after : Ordered M O R) (r : Result ℕ (Refused F)) (possible : ℕ → ℕ → Type 0) → Accepting b full s None → possible (held b full s) room → ltb (held b full s) room ≡ true
+    pub push_ok : (after : Ordered M O R) (r : Result ℕ (Refused F)) (possible : ℕ → ℕ → Type 0) → Accepting b full s (Ok tt) → possible (held b full s) room → ltb (held b full s) room ≡ true
         → r ≡ unwrapped (b.kind.accepts s.below (wrapped b full s push))
         → after ≡ record { below = b.kind.pushed s.below (wrapped b full s push); parked = s.parked; places = room; incoming = incoming_after b full s side; outgoing = outgoing_after b full s side; beyond = s.beyond }
-        → Sound b Inv labels s
-        → PushedBy b full possible s side task r after × Sound b Inv labels after
+        → Kept b Inv labels s
+        → PushedBy b full possible s side task r after × Kept b Inv labels after
     push_ok after r possible none can fits is to k =
         let a = answer_ok (b.kind.accepts s.below (wrapped b full s push)) (none (wrapped b full s push)) fits in
         let then : after ≡ pushed b full s push
@@ -105,11 +130,11 @@ module _ {M Q F O R : Type 0} (b : Below M Q F O) (full : ℕ → ℕ → Fault)
           },
         )
 
-    refused_below : (x : Result ℕ (Refused (OrderWrapper F))) (f : Fault) → refusal_of x ≡ Some f → accepting b full s push x ≡ Err (record { fault = f; input = task })
+    refused_below : (x : Result ℕ (Refused (OrderWrapper F))) (f : Fault) → leave_of x ≡ Err f → accepting b full s push x ≡ Err (record { fault = f; input = task })
     refused_below (Ok a) f e = let z : ◌≡◌ {A = ℕ} 0 1 = cc in absurd (omega arith)
     refused_below (Err r) f e = let g : r.fault ≡ f = cc in ap (λ h. Err (record { fault = h; input = task })) g
 
-    refused_parking : (x : Result ℕ (Refused (OrderWrapper F))) → refusal_of x ≡ None → ltb (held b full s) room ≡ false
+    refused_parking : (x : Result ℕ (Refused (OrderWrapper F))) → leave_of x ≡ Ok tt → ltb (held b full s) room ≡ false
         → accepting b full s push x ≡ Err (record { fault = full s.places (held b full s); input = task })
     refused_parking (Ok a) none fits =
         let e : ltb (held b full s) (room_for push) ≡ false = ap (λ n. ltb (held b full s) n) cut ∙ fits in
@@ -121,9 +146,9 @@ module _ {M Q F O R : Type 0} (b : Below M Q F O) (full : ℕ → ℕ → Fault)
 
   -- a push that is refused
   pub push_refused : (s : Ordered M O R) (side : Side) (task : F) (after : Ordered M O R) (f : Fault) (possible : ℕ → ℕ → Type 0) → after ≡ s
-      → Accepting b full s (Some f) ⊎ (Accepting b full s None × possible (held b full s) s.places × (ltb (held b full s) s.places ≡ false) × (f ≡ full s.places (held b full s)))
-      → Sound b Inv labels s
-      → PushedBy b full possible s side task (Err (record { fault = f; input = task })) after × Sound b Inv labels after
+      → Accepting b full s (Err f) ⊎ (Accepting b full s (Ok tt) × possible (held b full s) s.places × (ltb (held b full s) s.places ≡ false) × (f ≡ full s.places (held b full s)))
+      → Kept b Inv labels s
+      → PushedBy b full possible s side task (Err (record { fault = f; input = task })) after × Kept b Inv labels after
   push_refused s side task after f possible same (inl below) k =
       let most = k.lined.most in
       let p : Pushing F = record { side = side; task = task; room = s.places } in
@@ -134,7 +159,7 @@ module _ {M Q F O R : Type 0} (b : Below M Q F O) (full : ℕ → ℕ → Fault)
           answer = sym e;
           then = as_it_was s side task s.places most after (record { fault = f; input = task }) same e;
         },
-        subst (λ t. Sound b Inv labels t) (sym same) k,
+        subst (λ t. Kept b Inv labels t) (sym same) k,
       )
   push_refused s side task after f possible same (inr parking) k =
       let most = k.lined.most in
@@ -146,32 +171,26 @@ module _ {M Q F O R : Type 0} (b : Below M Q F O) (full : ℕ → ℕ → Fault)
           answer = ap (λ h. Err (record { fault = h; input = task })) parking.3 ∙ sym e;
           then = as_it_was s side task s.places most after (record { fault = full s.places (held b full s); input = task }) same e;
         },
-        subst (λ t. Sound b Inv labels t) (sym same) k,
+        subst (λ t. Kept b Inv labels t) (sym same) k,
       )
 
-  -- a place was secured, and the task was put at the back or the front
-  pub pushed_back : (s t : Ordered M O R) (task : F) (m : M) (r : Result ℕ (Refused F)) (possible : ℕ → ℕ → Type 0) → Secured b full possible s (Ok tt) t
-      → r ≡ unwrapped (b.kind.accepts t.below (record { «data» = task; index = t.incoming })) → m ≡ b.kind.pushed t.below (record { «data» = task; index = t.incoming }) → Sound b Inv labels s
-      → PushedBy b full possible s back task r (record { below = m; parked = t.parked; places = t.places; incoming = index_raised t.incoming; outgoing = t.outgoing; beyond = t.beyond })
-      × Sound b Inv labels (record { below = m; parked = t.parked; places = t.places; incoming = index_raised t.incoming; outgoing = t.outgoing; beyond = t.beyond })
-  pushed_back s t task m r possible made is to k =
-      let n : ℕ = t.places in
-      push_ok s back task n made.3 (record { below = m; parked = t.parked; places = n; incoming = index_raised t.incoming; outgoing = t.outgoing; beyond = t.beyond }) r possible made.0 made.1 made.2
-      (is ∙ ap (λ (u : Ordered M O R). unwrapped (b.kind.accepts u.below (record { «data» = task; index = u.incoming }))) made.4)
-      (ap (λ (l : M). let v : Ordered M O R = record { below = l; parked = t.parked; places = n; incoming = index_raised t.incoming; outgoing = t.outgoing; beyond = t.beyond } in v) to
-      ∙ ap (λ (u : Ordered M O R). let v : Ordered M O R = record { below = b.kind.pushed u.below (record { «data» = task; index = u.incoming }); parked = u.parked; places = n; incoming = index_raised u.incoming; outgoing = u.outgoing; beyond = u.beyond } in v) made.4)
-      k
+  -- a task was not put under an index, or it was, under that of the back or the front
+  pub handed_back : (s after : Ordered M O R) (side : Side) (w : OrderWrapper F) (r : Refused F) (possible : ℕ → ℕ → Type 0) → PutUnder b full possible s w (Err r) after → Kept b Inv labels s
+      → PushedBy b full possible s side w.«data» (Err r) after × Kept b Inv labels after
+  handed_back s after side w r possible put k =
+      let same : r ≡ record { fault = r.fault; input = w.«data» } = ap (λ (x : F). let v : Refused F = record { fault = r.fault; input = x } in v) put.1 in
+      subst (λ x. PushedBy b full possible s side w.«data» (Err x) after × Kept b Inv labels after) (sym same) (push_refused s side w.«data» after r.fault possible put.0.0 put.0.1 k)
 
-  pub pushed_front : (s t : Ordered M O R) (task : F) (m : M) (r : Result ℕ (Refused F)) (possible : ℕ → ℕ → Type 0) → Secured b full possible s (Ok tt) t
-      → r ≡ unwrapped (b.kind.accepts t.below (record { «data» = task; index = index_lowered t.outgoing })) → m ≡ b.kind.pushed t.below (record { «data» = task; index = index_lowered t.outgoing }) → Sound b Inv labels s
-      → PushedBy b full possible s front task r (record { below = m; parked = t.parked; places = t.places; incoming = t.incoming; outgoing = index_lowered t.outgoing; beyond = t.beyond })
-      × Sound b Inv labels (record { below = m; parked = t.parked; places = t.places; incoming = t.incoming; outgoing = index_lowered t.outgoing; beyond = t.beyond })
-  pushed_front s t task m r possible made is to k =
-      let n : ℕ = t.places in
-      push_ok s front task n made.3 (record { below = m; parked = t.parked; places = n; incoming = t.incoming; outgoing = index_lowered t.outgoing; beyond = t.beyond }) r possible made.0 made.1 made.2
-      (is ∙ ap (λ (u : Ordered M O R). unwrapped (b.kind.accepts u.below (record { «data» = task; index = index_lowered u.outgoing }))) made.4)
-      (ap (λ (l : M). let v : Ordered M O R = record { below = l; parked = t.parked; places = n; incoming = t.incoming; outgoing = index_lowered t.outgoing; beyond = t.beyond } in v) to
-      ∙ ap (λ (u : Ordered M O R). let v : Ordered M O R = record { below = b.kind.pushed u.below (record { «data» = task; index = index_lowered u.outgoing }); parked = u.parked; places = n; incoming = u.incoming; outgoing = index_lowered u.outgoing; beyond = u.beyond } in v) made.4)
+  pub pushed_as : (s t : Ordered M O R) (side : Side) (task : F) (a i o : ℕ) (possible : ℕ → ℕ → Type 0)
+      → PutUnder b full possible s (record { «data» = task; index = index_for b full s side }) (Ok a) t → Kept b Inv labels s → i ≡ incoming_after b full s side → o ≡ outgoing_after b full s side
+      → PushedBy b full possible s side task (Ok a) (record { below = t.below; parked = t.parked; places = t.places; incoming = i; outgoing = o; beyond = t.beyond })
+      × Kept b Inv labels (record { below = t.below; parked = t.parked; places = t.places; incoming = i; outgoing = o; beyond = t.beyond })
+  pushed_as s t side task a i o possible put k ei eo =
+      let made = put.0 in
+      let w : OrderWrapper F = record { «data» = task; index = index_for b full s side } in
+      push_ok s side task t.places made.3 _ (Ok a) possible made.0 made.1 made.2 put.1
+      (order_same t.below (b.kind.pushed s.below w) t.parked s.parked t.places t.places i (incoming_after b full s side) o (outgoing_after b full s side) t.beyond s.beyond
+      (ap (λ (u : Ordered M O R). u.below) put.2) (ap (λ (u : Ordered M O R). u.parked) put.2) refl ei eo (ap (λ (u : Ordered M O R). u.beyond) put.2))
       k
 
   -- the pairs that wait fit any parking of so many places, after housekeeping
@@ -199,34 +218,52 @@ module _ {M Q F O R : Type 0} (b : Below M Q F O) (full : ℕ → ℕ → Fault)
   apart_bag s d bag l is i =
       omega (arith, apart_lined no_ticket Inv labels s d l i, ap (λ ws. count_by (λ (w : OrderWrapper O). eqb w.index i) ws) is, count_ascending (λ w. eqb w.index i) bag)
 
-  -- the parking was flipped, and so was the set below
-  pub housekept_is : (s after : Ordered M O R) (bag flat : List (OrderWrapper O)) (ok : Bool) → Sound b Inv labels s → s.parked ≡ ascending bag → 2 ^ 63 ≤ s.outgoing
-      → Flipped s.places bag ok flat
-      → after ≡ record { below = b.flipped s.below; parked = ascending flat; places = s.places; incoming = index_flipped s.incoming; outgoing = index_flipped s.outgoing; beyond = s.beyond }
-      → (after ≡ housekept b full s) × Sound b Inv labels after × (top_bit (index_flipped s.outgoing) ≡ false)
-  housekept_is s after bag flat ok k is high done to =
-      let l : Lined no_ticket Inv labels s k.deque = k.lined in
-      let e : top_bit s.outgoing ≡ true = le-leb (2 ^ 63) s.outgoing high in
-      let low : top_bit (index_flipped s.outgoing) ≡ false = lt-leb (2 ^ 63) (index_flipped s.outgoing) (omega (arith, l.wraps, high)) in
-      let apart : Apart bag = apart_bag s k.deque bag l is in
-      let within : All (λ w. w.index < 2 ^ 64) bag = all_from_ascending (λ w. w.index < 2 ^ 64) bag (subst (λ ws. All (λ (w : OrderWrapper O). w.index < 2 ^ 64) ws) is (within_lined no_ticket Inv labels s k.deque l)) in
-      let flipped_apart : Apart (map wrapper_flipped bag) = apart_flipped bag within apart in
-      let t : Ordered M O R = flipped_if b full true s in
-      let line : Lined no_ticket Inv labels t k.deque = flip_line b full no_ticket no_ticket Inv labels labels k.tickets k.flips true s k.deque l in
-      let sorted : ascending (map wrapper_flipped s.parked) ≡ ascending (map wrapper_flipped bag) = ap (λ ws. ascending (map wrapper_flipped ws)) is ∙ ascending_map wrapper_flipped bag flipped_apart in
-      let fits : Fits s.places (map wrapper_flipped bag)
-      = fits_lined t k.deque (map wrapper_flipped bag) line low (λ test. sym (count_ascending test (map wrapper_flipped bag)) ∙ ap (λ ws. count_by test ws) (sym sorted)) in
-      let shuffled : IsPermutation (map wrapper_flipped bag) flat = flipped_then s.places bag ok flat done fits in
-      let parked : ascending flat ≡ ascending (map wrapper_flipped s.parked) = sym (ascending_shuffled (map wrapper_flipped bag) flat shuffled flipped_apart) ∙ sym sorted in
-      let there : after ≡ t
-      = to ∙ ap (λ ws. let u : Ordered M O R = record { below = b.flipped s.below; parked = ws; places = s.places; incoming = index_flipped s.incoming; outgoing = index_flipped s.outgoing; beyond = s.beyond } in u) parked in (
-        there ∙ ap (λ h. flipped_if b full h s) (sym e),
-        record { tickets = k.tickets; flips = k.flips; deque = k.deque; lined = subst (λ u. Lined no_ticket Inv labels u k.deque) (sym there) line },
-        low,
-      )
+  -- where the top bit of outgoing is set, the pairs that wait fit after it was flipped
+  module _ (s : Ordered M O R) (bag : List (OrderWrapper O)) (k : Kept b Inv labels s) (is : s.parked ≡ ascending bag) (high : 2 ^ 63 ≤ s.outgoing) where
+    apart_before : Apart bag
+    apart_before = apart_bag s k.deque bag k.lined is
+
+    apart_after : Apart (map wrapper_flipped bag)
+    apart_after =
+        apart_flipped bag (all_from_ascending (λ w. w.index < 2 ^ 64) bag (subst (λ ws. All (λ (w : OrderWrapper O). w.index < 2 ^ 64) ws) is (within_lined no_ticket Inv labels s k.deque k.lined))) apart_before
+
+    low_after : top_bit (index_flipped s.outgoing) ≡ false
+    low_after = lt-leb (2 ^ 63) (index_flipped s.outgoing) (omega (arith, k.lined.wraps, high))
+
+    line_after : Lined no_ticket Inv labels (flipped_if b full true s) k.deque
+    line_after = flip_line b full no_ticket no_ticket Inv labels labels k.tickets k.flips true s k.deque k.lined
+
+    sorted_after : ascending (map wrapper_flipped s.parked) ≡ ascending (map wrapper_flipped bag)
+    sorted_after = ap (λ ws. ascending (map wrapper_flipped ws)) is ∙ ascending_map wrapper_flipped bag apart_after
+
+    fits_after : Fits s.places (map wrapper_flipped bag)
+    fits_after =
+        fits_lined (flipped_if b full true s) k.deque (map wrapper_flipped bag) line_after low_after (λ test. sym (count_ascending test (map wrapper_flipped bag)) ∙ ap (λ ws. count_by test ws) (sym sorted_after))
+
+    -- so the parking flips them
+    pub flips : (r : Result (Unit {0}) Unfit) (after : List (OrderWrapper O)) → Flipped s.places bag r after → IsOk r
+    flips (Ok u) after done = refl
+    flips (Err e) after done = absurd (done.1 fits_after)
+
+    shuffled_after : (r : Result (Unit {0}) Unfit) (after : List (OrderWrapper O)) → Flipped s.places bag r after → IsPermutation (map wrapper_flipped bag) after
+    shuffled_after (Ok u) after done = done
+    shuffled_after (Err e) after done = absurd (done.1 fits_after)
+
+    -- and then the set below is flipped too
+    pub housekept_is : (r : Result (Unit {0}) Unfit) (flat : List (OrderWrapper O)) (after : Ordered M O R) → Flipped s.places bag r flat
+        → after ≡ record { below = b.flipped s.below; parked = ascending flat; places = s.places; incoming = index_flipped s.incoming; outgoing = index_flipped s.outgoing; beyond = s.beyond }
+        → (after ≡ housekept b full s) × Kept b Inv labels after × (top_bit (index_flipped s.outgoing) ≡ false)
+    housekept_is r flat after done to =
+        let parked : ascending flat ≡ ascending (map wrapper_flipped s.parked) = sym (ascending_shuffled (map wrapper_flipped bag) flat (shuffled_after r flat done) apart_after) ∙ sym sorted_after in
+        let there : after ≡ flipped_if b full true s
+        = to ∙ ap (λ ws. let u : Ordered M O R = record { below = b.flipped s.below; parked = ws; places = s.places; incoming = index_flipped s.incoming; outgoing = index_flipped s.outgoing; beyond = s.beyond } in u) parked in (
+          there ∙ ap (λ h. flipped_if b full h s) (sym (le-leb (2 ^ 63) s.outgoing high)),
+          record { tickets = k.tickets; flips = k.flips; deque = k.deque; lined = subst (λ u. Lined no_ticket Inv labels u k.deque) (sym there) line_after },
+          low_after,
+        )
 
   -- an output that the set below gives and that is not next in turn fits the parking
-  pub fits_round : (s : Ordered M O R) (bag : List (OrderWrapper O)) (post : List ℕ) (w : OrderWrapper O) → Sound b Inv labels s → s.parked ≡ ascending bag → top_bit s.outgoing ≡ false
+  pub fits_round : (s : Ordered M O R) (bag : List (OrderWrapper O)) (post : List ℕ) (w : OrderWrapper O) → Kept b Inv labels s → s.parked ≡ ascending bag → top_bit s.outgoing ≡ false
       → (b.kind.yields s.below post).poll ≡ Ready (Some w) → Fits s.places (w ∷ bag)
   fits_round s bag post w k is low e =
       let t : Ordered M O R = with_parked b full s (b.kind.polled s.below post) w in
@@ -234,7 +271,7 @@ module _ {M Q F O R : Type 0} (b : Below M Q F O) (full : ℕ → ℕ → Fault)
       (λ test. omega (arith, count_cons test w bag, count_parked_with test w s.parked, ap (λ ws. count_by test ws) is, count_ascending test bag))
 
   -- the pair that was taken was the first that waited
-  pub taken_first : (s : Ordered M O R) (bag after : List (OrderWrapper O)) (x : O) → Sound b Inv labels s → s.parked ≡ ascending bag → top_bit s.outgoing ≡ false
+  pub taken_first : (s : Ordered M O R) (bag after : List (OrderWrapper O)) (x : O) → Kept b Inv labels s → s.parked ≡ ascending bag → top_bit s.outgoing ≡ false
       → IsPermutation bag (pair s.outgoing x ∷ after)
       → (bearing_index s.outgoing s.parked ≡ Some (pair s.outgoing x)) × (without_index s.outgoing s.parked ≡ ascending after)
   taken_first s bag after x k is low same =
@@ -249,7 +286,7 @@ module _ {M Q F O R : Type 0} (b : Below M Q F O) (full : ℕ → ℕ → Fault)
       )
 
   -- a poll keeps the line
-  pub poll_sound : (s after : Ordered M O R) (post : List ℕ) → Sound b Inv labels s → after ≡ (outcome b full post s).set → Sound b Inv labels after
+  pub poll_sound : (s after : Ordered M O R) (post : List ℕ) → Kept b Inv labels s → after ≡ (outcome b full post s).set → Kept b Inv labels after
   poll_sound s after post k is =
       let turn = poll_turn b full no_ticket no_ticket Inv labels labels k.tickets k.flips post s k.deque k.lined in
       record {
@@ -279,7 +316,7 @@ module _ {M Q F O R : Type 0} (b : Below M Q F O) (full : ℕ → ℕ → Fault)
       ap (λ u. polled_by_turn b full post u) (sym is) ∙ ap (λ o. from_parked b full post h o) none ∙ ap (λ u. from_parked b full post u None) (sym same)
 
   -- every call keeps the line
-  pub call_sound : (s after : Ordered M O R) (c : Call (Pushing F) Q) → Sound b Inv labels s → after ≡ (step b full s c).0 → Sound b Inv labels after
+  pub call_sound : (s after : Ordered M O R) (c : Call (Pushing F) Q) → Kept b Inv labels s → after ≡ (step b full s c).0 → Kept b Inv labels after
   call_sound s after c k is =
       let d : List (ℕ × ℕ) = fed no_ticket k.deque (entry (step b full) s c) in
       record {

@@ -3,36 +3,55 @@ use Rattle.std.proofs.Common.{◌≡◌, ℕ, suc, ◌+◌, ◌-◌, ◌*◌, �
 use Rattle.ordered.proofs.Lines.{park_line, fewer_below, held_placed, polling_turn}
 use Rattle.ordered.proofs.Parkings.{NoneAt, none_at_parked}
 use Rattle.ordered.proofs.Queues.{settled_parked}
+use Rattle.ordered.specs.declared.task_set.TaskSet.{Ghosts as TaskSet}
+use Rattle.parking.specs.declared.parking.Parking.{Ghosts as Parking}
 use Rattle.ordered.specs.Below.{Below, Label}
 use Rattle.ordered.specs.BoundedBelow.{no_ticket}
 use Rattle.ordered.specs.Deques.{taken_by}
 use Rattle.ordered.specs.Lined.{Lined}
 use Rattle.ordered.specs.Ordered.{Ordered, Outcome, with_below, with_parked, parked_with, in_turn, after_poll, polling}
-use Rattle.ordered.specs.Queue.{Sound}
+use Rattle.ordered.specs.Queue.{Kept}
 use Rattle.ordered.specs.Rounds.{round_by, set_by, round_of, set_of_round, polled_below}
-use Rattle.ordered.specs.declared.round.Round.{Round}
-use Rattle.ordered.specs.declared.round.Round.TheVariants.{Pending as Waits, Empty, Yielded, Parked}
+use Rattle.std.specs.Option.{option_map}
 use Rattle.tasks.specs.declared.fault.Fault.{Fault}
 use Rattle.tasks.specs.declared.order_wrapper.OrderWrapper.{OrderWrapper}
 use Rattle.tasks.specs.declared.poll.Poll.{Poll}
 use Rattle.tasks.specs.declared.poll.Poll.TheVariants.{Ready, Pending}
-use Rattle.tasks.specs.declared.poll.Polled.{Polled}
 use Rattle.tasks.specs.Orders.{index_raised, top_bit}
 
 -- what a poll is after a round: it ends, or goes on
-abbrev pub ended : {M O R : Type 0} → (Ordered M O R → Outcome M O R) → Round O → Ordered M O R → ℕ → ℕ → Outcome M O R
-ended go Waits s n t = record { answer = record { poll = Pending; notices = n; turns = t }; set = s }
-ended go Empty s n t = record { answer = record { poll = Ready None; notices = n; turns = t }; set = s }
-ended go (Yielded x) s n t = record { answer = record { poll = Ready (Some x); notices = n; turns = t }; set = s }
-ended go Parked s n t = go s
+abbrev pub ended : {M O R : Type 0} → (Ordered M O R → Outcome M O R) → Option (Poll (Option O)) → Ordered M O R → ℕ → ℕ → Outcome M O R
+ended go (Some p) s n t = record { answer = record { poll = p; notices = n; turns = t }; set = s }
+ended go None s n t = go s
 
-module _ {M Q F O R : Type 0} (b : Below M Q F O) (full : ℕ → ℕ → Fault) (Inv : M → Type 0) (labels : M → List Label) (post : List ℕ) where
+module _ {S P F O : Type 0} (T : TaskSet S F O) (K : Parking P O) (post : List ℕ) where
+  abbrev M : Type 0
+  M = T.Model
+
+  abbrev Q : Type 0
+  Q = T.Ask
+
+  abbrev R : Type 0
+  R = K.Rest
+
+  abbrev b : Below M Q F O
+  b = T.below
+
+  abbrev full : ℕ → ℕ → Fault
+  full = K.full
+
+  abbrev Inv : M → Type 0
+  Inv = T.Inv
+
+  abbrev labels : M → List Label
+  labels = T.labels
+
   abbrev tasks : Ordered M O R → ℕ
   tasks s = b.kind.number s.below b.len
 
   turn_round : (go : Ordered M O R → Outcome M O R) (s : Ordered M O R) (t : M) (w : OrderWrapper O) (n m : ℕ) (e : Bool)
       → in_turn b full e go s t w n m
-      ≡ ended go (cond e (Yielded w.«data») Parked) (record { below = t; parked = cond e s.parked (parked_with w s.parked); places = s.places; incoming = s.incoming; outgoing = cond e (index_raised s.outgoing) s.outgoing; beyond = s.beyond }) n m
+      ≡ ended go (option_map (λ x. Ready (Some x)) (cond e (Some w.«data») None)) (record { below = t; parked = cond e s.parked (parked_with w s.parked); places = s.places; incoming = s.incoming; outgoing = cond e (index_raised s.outgoing) s.outgoing; beyond = s.beyond }) n m
   turn_round go s t w n m true = refl
   turn_round go s t w n m false = refl
 
@@ -55,7 +74,7 @@ module _ {M Q F O R : Type 0} (b : Below M Q F O) (full : ℕ → ℕ → Fault)
 
   -- a poll in progress: where it began, and where it is with n notices and t turns
   pub record SoFar (start here : Ordered M O R) (n t : ℕ) : Type 0 where
-    pub sound : Sound b Inv labels here
+    pub sound : Kept b Inv labels here
     pub low : top_bit here.outgoing ≡ false
     pub none : NoneAt here.outgoing here.parked
     pub left : ℕ
@@ -65,10 +84,10 @@ module _ {M Q F O R : Type 0} (b : Below M Q F O) (full : ℕ → ℕ → Fault)
     pub few_turns : t + 1024 * tasks here ≤ 1024 * tasks start
     pub most : tasks start ≤ 65536
 
-  tasks_most : (s : Ordered M O R) → Sound b Inv labels s → tasks s ≤ 65536
+  tasks_most : (s : Ordered M O R) → Kept b Inv labels s → tasks s ≤ 65536
   tasks_most s k = omega (arith, held_placed b full no_ticket no_ticket Inv labels labels k.tickets k.flips s k.deque k.lined, k.lined.most)
 
-  pub begins : (s : Ordered M O R) → Sound b Inv labels s → top_bit s.outgoing ≡ false → NoneAt s.outgoing s.parked → SoFar s s 0 0
+  pub begins : (s : Ordered M O R) → Kept b Inv labels s → top_bit s.outgoing ≡ false → NoneAt s.outgoing s.parked → SoFar s s 0 0
   begins s k low none = record {
     sound = k;
     low = low;
@@ -82,7 +101,7 @@ module _ {M Q F O R : Type 0} (b : Below M Q F O) (full : ℕ → ℕ → Fault)
   }
 
   -- it ends with a round that does not park
-  pub ends : (start here : Ordered M O R) (n t more taken : ℕ) (r : Round O) (o : Outcome M O R) → SoFar start here n t
+  pub ends : (start here : Ordered M O R) (n t more taken : ℕ) (r : Option (Poll (Option O))) (o : Outcome M O R) → SoFar start here n t
       → more ≡ (b.kind.yields here.below post).notices → taken ≡ (b.kind.yields here.below post).turns → r ≡ round_of b post here
       → ((go : Ordered M O R → Outcome M O R) → ended go r (set_of_round b post here) (n + more) (t + taken) ≡ o)
       → polling b full post (suc (tasks start)) 0 0 start ≡ o
@@ -104,11 +123,11 @@ module _ {M Q F O R : Type 0} (b : Below M Q F O) (full : ℕ → ℕ → Fault)
     late : eqb w.index s.outgoing ≡ false
     to : set_by (polled_below b post s) p ≡ with_parked b full s (b.kind.polled s.below post) w
 
-  parks_if : (s : Ordered M O R) (w : OrderWrapper O) (e : Bool) → eqb w.index s.outgoing ≡ e → cond e (Yielded w.«data») Parked ≡ Parked → Parks s (Ready (Some w))
+  parks_if : (s : Ordered M O R) (w : OrderWrapper O) (e : Bool) → eqb w.index s.outgoing ≡ e → option_map (λ x. let p : Poll (Option O) = Ready (Some x) in p) (cond e (Some w.«data») None) ≡ None → Parks s (Ready (Some w))
   parks_if s w true e p = let z : ◌≡◌ {A = ℕ} 0 1 = cc in absurd (omega arith)
   parks_if s w false e p = record { w = w; is = refl; late = e; to = settled_parked (polled_below b post s) w e }
 
-  parks : (s : Ordered M O R) (p : Poll (Option (OrderWrapper O))) → round_by (polled_below b post s) p ≡ Parked → Parks s p
+  parks : (s : Ordered M O R) (p : Poll (Option (OrderWrapper O))) → round_by (polled_below b post s) p ≡ None → Parks s p
   parks s Pending e = let z : ◌≡◌ {A = ℕ} 0 1 = cc in absurd (omega arith)
   parks s (Ready None) e = let z : ◌≡◌ {A = ℕ} 0 1 = cc in absurd (omega arith)
   parks s (Ready (Some w)) e = parks_if s w (eqb w.index s.outgoing) refl e
@@ -116,7 +135,7 @@ module _ {M Q F O R : Type 0} (b : Below M Q F O) (full : ℕ → ℕ → Fault)
   -- it goes on after a round that parks, with fewer tasks
   pub goes_on : (start here next : Ordered M O R) (n t more taken : ℕ) → SoFar start here n t
       → more ≡ (b.kind.yields here.below post).notices → taken ≡ (b.kind.yields here.below post).turns → more ≤ 1024 → taken ≤ 1024
-      → Parked ≡ round_of b post here → next ≡ set_of_round b post here
+      → None ≡ round_of b post here → next ≡ set_of_round b post here
       → SoFar start next (n + more) (t + taken) × (tasks next < tasks here)
   goes_on start here next n t more taken f em et small few er to =
       let p = parks here (b.kind.yields here.below post).poll (sym er) in
@@ -148,7 +167,7 @@ module _ {M Q F O R : Type 0} (b : Below M Q F O) (full : ℕ → ℕ → Fault)
       )
 
   -- the whole poll keeps the line
-  pub polled_sound : (start after : Ordered M O R) → Sound b Inv labels start → NoneAt start.outgoing start.parked → after ≡ (polling b full post (suc (tasks start)) 0 0 start).set → Sound b Inv labels after
+  pub polled_sound : (start after : Ordered M O R) → Kept b Inv labels start → NoneAt start.outgoing start.parked → after ≡ (polling b full post (suc (tasks start)) 0 0 start).set → Kept b Inv labels after
   polled_sound start after k none is =
       let turn = polling_turn b full no_ticket no_ticket Inv labels labels k.tickets k.flips post (suc (tasks start)) 0 0 start k.deque k.lined none (omega arith) in
       record {
@@ -158,12 +177,11 @@ module _ {M Q F O R : Type 0} (b : Below M Q F O) (full : ℕ → ℕ → Fault)
         lined = subst (λ u. Lined no_ticket Inv labels u (taken_by (polling b full post (suc (tasks start)) 0 0 start).answer.poll k.deque)) (sym is) turn.lined;
       }
 
-  pub finishes : (start here after : Ordered M O R) (n t more taken : ℕ) (r : Round O) (a : Polled (Option O)) → Sound b Inv labels start → NoneAt start.outgoing start.parked → SoFar start here n t
-      → more ≡ (b.kind.yields here.below post).notices → taken ≡ (b.kind.yields here.below post).turns → r ≡ round_of b post here → after ≡ set_of_round b post here
-      → ((go : Ordered M O R → Outcome M O R) → ended go r (set_of_round b post here) (n + more) (t + taken) ≡ record { answer = a; set = set_of_round b post here })
-      → (a ≡ (polling b full post (suc (tasks start)) 0 0 start).answer) × (after ≡ (polling b full post (suc (tasks start)) 0 0 start).set) × Sound b Inv labels after
-  finishes start here after n t more taken r a k none f em et er to gives =
-      let o : Outcome M O R = record { answer = a; set = set_of_round b post here } in
-      let e : polling b full post (suc (tasks start)) 0 0 start ≡ o = ends start here n t more taken r o f em et er gives in
+  pub finishes : (start here after : Ordered M O R) (n t more taken : ℕ) (p : Poll (Option O)) → Kept b Inv labels start → NoneAt start.outgoing start.parked → SoFar start here n t
+      → more ≡ (b.kind.yields here.below post).notices → taken ≡ (b.kind.yields here.below post).turns → Some p ≡ round_of b post here → after ≡ set_of_round b post here
+      → (record { poll = p; notices = n + more; turns = t + taken } ≡ (polling b full post (suc (tasks start)) 0 0 start).answer) × (after ≡ (polling b full post (suc (tasks start)) 0 0 start).set) × Kept b Inv labels after
+  finishes start here after n t more taken p k none f em et er to =
+      let o : Outcome M O R = record { answer = record { poll = p; notices = n + more; turns = t + taken }; set = set_of_round b post here } in
+      let e : polling b full post (suc (tasks start)) 0 0 start ≡ o = ends start here n t more taken (Some p) o f em et er (λ go. refl) in
       let there : after ≡ (polling b full post (suc (tasks start)) 0 0 start).set = to ∙ ap (λ (x : Outcome M O R). x.set) (sym e) in
       (ap (λ (x : Outcome M O R). x.answer) (sym e), there, polled_sound start after k none there)

@@ -1,5 +1,5 @@
 -- What an ordered set needs of the set below it, which holds its tasks, each with its index.
-use Rattle.std.specs.Prelude.{◌≡◌, ℕ, Bool, List, Some, None, Ok, Err, count_by, Option, Result}
+use Rattle.std.specs.Prelude.{◌≡◌, ℕ, Bool, List, Ok, Err, count_by, Result}
 use Rattle.runs.specs.Kinds.{Kind}
 use Rattle.tasks.specs.Orders.{index_flipped}
 use Rattle.tasks.specs.declared.fault.Fault.{Fault}
@@ -24,10 +24,10 @@ label bearing w = (w.index, bearing w.«data»)
 abbrev pub label_flipped : Label → Label
 label_flipped l = (index_flipped l.0, l.1)
 
--- Why a push is refused, and what it answers with the bare task.
-abbrev pub refusal_of : {F : Type 0} → Result ℕ (Refused (OrderWrapper F)) → Option Fault
-refusal_of (Ok a) = None
-refusal_of (Err r) = Some r.fault
+-- Whether a push is accepted, or why it is refused; and what it answers with the bare task.
+abbrev pub leave_of : {F : Type 0} → Result ℕ (Refused (OrderWrapper F)) → Result (Unit {0}) Fault
+leave_of (Ok a) = Ok tt
+leave_of (Err r) = Err r.fault
 
 abbrev pub unwrapped : {F : Type 0} → Result ℕ (Refused (OrderWrapper F)) → Result ℕ (Refused F)
 unwrapped (Ok a) = Ok a

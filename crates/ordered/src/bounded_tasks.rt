@@ -32,25 +32,21 @@ where
 
     ghost labels = { index_labels };
 
-    fn refusal(&self) -> Option<Fault> {
+    fn may_push(&self) -> Result<(), Fault> {
         let capacity = self.capacity();
         if self.len() == capacity {
-            return Some(Fault::NoVacantSlot { capacity });
+            return Err(Fault::NoVacantSlot { capacity });
         }
-        None
+        Ok(())
     }
 
     fn push(&mut self, task: F, index: u64) -> Result<usize, Refused<F>> {
-        match FuturesUnorderedBounded::push(self, OrderWrapper { data: task, index }) {
-            Ok(address) => Ok(address),
-            Err(refused) => {
-                let Refused { fault, input } = refused;
-                Err(Refused {
-                    fault,
-                    input: input.data,
-                })
-            }
-        }
+        FuturesUnorderedBounded::push(self, OrderWrapper { data: task, index }).map_err(
+            |refused| Refused {
+                fault: refused.fault,
+                input: refused.input.data,
+            },
+        )
     }
 
     fn poll(&mut self, post: &[u64]) -> Polled<Option<OrderWrapper<F::Output>>> {

@@ -1,11 +1,11 @@
 ghost use Rattle.std.specs.Prelude.{◌≡◌, ℕ, ◌≤◌, false, [], ◌∷◌, None, ◌==◌};
 ghost use Rattle.ordered.specs.Ordered.{back, front, held, housekept, from_parked, outcome, made, bearing_index};
-ghost use Rattle.ordered.specs.Rounds.{settled_round, settled, round_of, set_of_round};
-ghost use Rattle.parking.specs.Bags.{Fits, pair};
-ghost use Rattle.ordered.specs.Queue.{line_of, Sound, PushedBy, Secured};
+ghost use Rattle.ordered.specs.Rounds.{yielded, settled, round_of, set_of_round};
+ghost use Rattle.parking.specs.Bags.{Fits};
+ghost use Rattle.ordered.specs.Queue.{line_of, Sound, Secures, Puts, Pushes};
 ghost use Rattle.tasks.specs.Orders.{index_raised, index_lowered, top_bit};
 
-use crate::round::{Round, Rounded};
+use crate::round::Rounded;
 use crate::task_set::TaskSet;
 use parking::parking::Parking;
 use tasks::fault::{Fault, Refused};
@@ -15,7 +15,7 @@ use tasks::poll::{Poll, Polled};
 pub mod tokens;
 
 // A queue of futures that are yielded in its order: those in progress in a set of tasks, and outputs that wait for their
-// turn in a parking.
+// turn in a parking. What it keeps, `Sound`, stays in clauses: `new` takes any set below, so it need not hold of each queue.
 pub struct OrderedQueue<S, P> {
     in_progress_queue: S,
     queued_outputs: P,
@@ -26,7 +26,7 @@ pub struct OrderedQueue<S, P> {
 impl<S: TaskSet, P: Parking<Output = S::Output>> OrderedQueue<S, P> {
     // An empty queue over an empty set; the parking is emptied.
     pub fn new(in_progress_queue: S, mut queued_outputs: P) -> OrderedQueue<S, P>
-        ensures fresh { line_of S.TaskSet.model P.Parking.bag P.Parking.places P.Parking.rest result ≡ made (S.TaskSet.model in_progress_queue) (P.Parking.places queued_outputs) (P.Parking.rest queued_outputs) }
+        ensures fresh { line_of S.TaskSet P.Parking result ≡ made (S.TaskSet.model in_progress_queue) (P.Parking.places queued_outputs) (P.Parking.rest queued_outputs) }
         ensures few { P.Parking.places queued_outputs ≤ 65536 }
     {
         queued_outputs.clear();
@@ -40,65 +40,65 @@ impl<S: TaskSet, P: Parking<Output = S::Output>> OrderedQueue<S, P> {
 
     // How many elements there are: tasks, and outputs that wait for their turn.
     pub fn len(&self) -> usize
-        requires { Sound S.TaskSet.below S.TaskSet.Inv S.TaskSet.labels (line_of S.TaskSet.model P.Parking.bag P.Parking.places P.Parking.rest self.now) }
-        ensures { result ≡ held S.TaskSet.below P.Parking.full (line_of S.TaskSet.model P.Parking.bag P.Parking.places P.Parking.rest self.now) }
+        requires { Sound S.TaskSet P.Parking self.now }
+        ensures { result ≡ held S.TaskSet.below P.Parking.full (line_of S.TaskSet P.Parking self.now) }
     {
         self.in_progress_queue.len() + self.queued_outputs.count()
     }
 
     // Sees to it that one more element finds a place, or tells why it does not.
     fn secure_one(&mut self) -> Result<(), Fault>
-        requires { Sound S.TaskSet.below S.TaskSet.Inv S.TaskSet.labels (line_of S.TaskSet.model P.Parking.bag P.Parking.places P.Parking.rest self.old) }
-        ensures { Secured S.TaskSet.below P.Parking.full (P.Parking.secures self.old.queued_outputs) (line_of S.TaskSet.model P.Parking.bag P.Parking.places P.Parking.rest self.old) result (line_of S.TaskSet.model P.Parking.bag P.Parking.places P.Parking.rest self.new) }
+        requires { Sound S.TaskSet P.Parking self.old }
+        ensures { Secures S.TaskSet P.Parking self.old result self.new }
     {
-        if let Some(fault) = self.in_progress_queue.refusal() {
-            return Err(fault);
-        }
+        self.in_progress_queue.may_push()?;
         let len = self.len();
         self.queued_outputs.secure(len)
     }
 
+    // Puts a task into the set below under an index, once there is a place for it, or hands it back.
+    fn push(&mut self, task: S::Task, index: u64) -> Result<usize, Refused<S::Task>>
+        requires { Sound S.TaskSet P.Parking self.old }
+        ensures { Puts S.TaskSet P.Parking self.old (record { «data» = task; index = index }) result self.new }
+    {
+        self.secure_one()
+            .map_err(|fault| Refused { fault, input: task })?;
+        self.in_progress_queue.push(task, index)
+    }
+
     // Puts a task at the back of the queue, or hands it back.
     pub fn push_back(&mut self, task: S::Task) -> Result<usize, Refused<S::Task>>
-        requires { Sound S.TaskSet.below S.TaskSet.Inv S.TaskSet.labels (line_of S.TaskSet.model P.Parking.bag P.Parking.places P.Parking.rest self.old) }
-        ensures pushed { PushedBy S.TaskSet.below P.Parking.full (P.Parking.secures self.old.queued_outputs) (line_of S.TaskSet.model P.Parking.bag P.Parking.places P.Parking.rest self.old) back task result (line_of S.TaskSet.model P.Parking.bag P.Parking.places P.Parking.rest self.new) }
-        ensures sound { Sound S.TaskSet.below S.TaskSet.Inv S.TaskSet.labels (line_of S.TaskSet.model P.Parking.bag P.Parking.places P.Parking.rest self.new) }
+        requires { Sound S.TaskSet P.Parking self.old }
+        ensures pushed { Pushes S.TaskSet P.Parking self.old back task result self.new }
+        ensures sound { Sound S.TaskSet P.Parking self.new }
     {
-        match self.secure_one() {
-            Ok(()) => {
-                let index = self.next_incoming_index;
-                self.next_incoming_index = index.wrapping_add(1);
-                self.in_progress_queue.push(task, index)
-            }
-            Err(fault) => Err(Refused { fault, input: task }),
-        }
+        let index = self.next_incoming_index;
+        let address = self.push(task, index)?;
+        self.next_incoming_index = index.wrapping_add(1);
+        Ok(address)
     }
 
     // Puts a task at the front of the queue, or hands it back.
     pub fn push_front(&mut self, task: S::Task) -> Result<usize, Refused<S::Task>>
-        requires { Sound S.TaskSet.below S.TaskSet.Inv S.TaskSet.labels (line_of S.TaskSet.model P.Parking.bag P.Parking.places P.Parking.rest self.old) }
-        ensures pushed { PushedBy S.TaskSet.below P.Parking.full (P.Parking.secures self.old.queued_outputs) (line_of S.TaskSet.model P.Parking.bag P.Parking.places P.Parking.rest self.old) front task result (line_of S.TaskSet.model P.Parking.bag P.Parking.places P.Parking.rest self.new) }
-        ensures sound { Sound S.TaskSet.below S.TaskSet.Inv S.TaskSet.labels (line_of S.TaskSet.model P.Parking.bag P.Parking.places P.Parking.rest self.new) }
+        requires { Sound S.TaskSet P.Parking self.old }
+        ensures pushed { Pushes S.TaskSet P.Parking self.old front task result self.new }
+        ensures sound { Sound S.TaskSet P.Parking self.new }
     {
-        match self.secure_one() {
-            Ok(()) => {
-                let index = self.next_outgoing_index.wrapping_sub(1);
-                self.next_outgoing_index = index;
-                self.in_progress_queue.push(task, index)
-            }
-            Err(fault) => Err(Refused { fault, input: task }),
-        }
+        let index = self.next_outgoing_index.wrapping_sub(1);
+        let address = self.push(task, index)?;
+        self.next_outgoing_index = index;
+        Ok(address)
     }
 
     // Flips the top bit of every index, if the indices get too high.
     fn housekeep(&mut self)
-        requires { Sound S.TaskSet.below S.TaskSet.Inv S.TaskSet.labels (line_of S.TaskSet.model P.Parking.bag P.Parking.places P.Parking.rest self.old) }
-        ensures after { (line_of S.TaskSet.model P.Parking.bag P.Parking.places P.Parking.rest self.new) ≡ housekept S.TaskSet.below P.Parking.full (line_of S.TaskSet.model P.Parking.bag P.Parking.places P.Parking.rest self.old) }
-        ensures sound { Sound S.TaskSet.below S.TaskSet.Inv S.TaskSet.labels (line_of S.TaskSet.model P.Parking.bag P.Parking.places P.Parking.rest self.new) }
+        requires { Sound S.TaskSet P.Parking self.old }
+        ensures after { line_of S.TaskSet P.Parking self.new ≡ housekept S.TaskSet.below P.Parking.full (line_of S.TaskSet P.Parking self.old) }
+        ensures sound { Sound S.TaskSet P.Parking self.new }
         ensures low { top_bit self.new.next_outgoing_index ≡ false }
     {
         if self.next_outgoing_index >= MSB {
-            self.queued_outputs.flip();
+            self.queued_outputs.flip().unwrap();
             self.in_progress_queue.flip();
             self.next_outgoing_index = flip(self.next_outgoing_index);
             self.next_incoming_index = flip(self.next_incoming_index);
@@ -106,28 +106,26 @@ impl<S: TaskSet, P: Parking<Output = S::Output>> OrderedQueue<S, P> {
     }
 
     // Yields an output that is next in turn, and parks any other.
-    fn settle(&mut self, index: u64, output: S::Output) -> Round<S::Output>
-        requires { (index == self.old.next_outgoing_index) ≡ false → Fits (P.Parking.places self.old.queued_outputs) (pair index output ∷ P.Parking.bag self.old.queued_outputs) }
-        ensures round { result ≡ settled_round (line_of S.TaskSet.model P.Parking.bag P.Parking.places P.Parking.rest self.old) (pair index output) }
-        ensures after { (line_of S.TaskSet.model P.Parking.bag P.Parking.places P.Parking.rest self.new) ≡ settled (line_of S.TaskSet.model P.Parking.bag P.Parking.places P.Parking.rest self.old) (pair index output) }
+    fn settle(&mut self, output: OrderWrapper<S::Output>) -> Option<S::Output>
+        requires { (output.index == self.old.next_outgoing_index) ≡ false → Fits (P.Parking.places self.old.queued_outputs) (output ∷ P.Parking.bag self.old.queued_outputs) }
+        ensures answer { result ≡ yielded (line_of S.TaskSet P.Parking self.old) output }
+        ensures after { line_of S.TaskSet P.Parking self.new ≡ settled (line_of S.TaskSet P.Parking self.old) output }
     {
-        if index == self.next_outgoing_index {
-            self.next_outgoing_index = index.wrapping_add(1);
-            return Round::Yielded(output);
+        if output.index == self.next_outgoing_index {
+            self.next_outgoing_index = output.index.wrapping_add(1);
+            return Some(output.data);
         }
-        match self.queued_outputs.put(index, output) {
-            Ok(()) => Round::Parked,
-            Err(_) => unreachable(),
-        }
+        self.queued_outputs.put(output.index, output.data).unwrap();
+        None
     }
 
     // Polls the set below once.
     fn round(&mut self, post: &[u64]) -> Rounded<S::Output>
-        requires { (Sound S.TaskSet.below S.TaskSet.Inv S.TaskSet.labels (line_of S.TaskSet.model P.Parking.bag P.Parking.places P.Parking.rest self.old)) × (top_bit self.old.next_outgoing_index ≡ false) }
-        ensures round { result.round ≡ round_of S.TaskSet.below post.now (line_of S.TaskSet.model P.Parking.bag P.Parking.places P.Parking.rest self.old) }
-        ensures notices { result.notices ≡ (S.TaskSet.below.kind.yields (line_of S.TaskSet.model P.Parking.bag P.Parking.places P.Parking.rest self.old).below post.now).notices }
-        ensures turns { result.turns ≡ (S.TaskSet.below.kind.yields (line_of S.TaskSet.model P.Parking.bag P.Parking.places P.Parking.rest self.old).below post.now).turns }
-        ensures after { (line_of S.TaskSet.model P.Parking.bag P.Parking.places P.Parking.rest self.new) ≡ set_of_round S.TaskSet.below post.now (line_of S.TaskSet.model P.Parking.bag P.Parking.places P.Parking.rest self.old) }
+        requires { (Sound S.TaskSet P.Parking self.old) × (top_bit self.old.next_outgoing_index ≡ false) }
+        ensures answer { result.poll ≡ round_of S.TaskSet.below post.now (line_of S.TaskSet P.Parking self.old) }
+        ensures notices { result.notices ≡ (S.TaskSet.below.kind.yields (line_of S.TaskSet P.Parking self.old).below post.now).notices }
+        ensures turns { result.turns ≡ (S.TaskSet.below.kind.yields (line_of S.TaskSet P.Parking self.old).below post.now).turns }
+        ensures after { line_of S.TaskSet P.Parking self.new ≡ set_of_round S.TaskSet.below post.now (line_of S.TaskSet P.Parking self.old) }
         ensures few_notices { result.notices ≤ 1024 }
         ensures few_turns { result.turns ≤ 1024 }
     {
@@ -136,81 +134,53 @@ impl<S: TaskSet, P: Parking<Output = S::Output>> OrderedQueue<S, P> {
             notices,
             turns,
         } = self.in_progress_queue.poll(post);
-        match poll {
-            Poll::Pending => Rounded {
-                round: Round::Pending,
-                notices,
-                turns,
-            },
-            Poll::Ready(ready) => match ready {
-                None => Rounded {
-                    round: Round::Empty,
-                    notices,
-                    turns,
-                },
-                Some(wrapper) => {
-                    let OrderWrapper { data, index } = wrapper;
-                    let round = self.settle(index, data);
-                    Rounded {
-                        round,
-                        notices,
-                        turns,
-                    }
-                }
-            },
+        let poll = match poll {
+            Poll::Pending => Some(Poll::Pending),
+            Poll::Ready(None) => Some(Poll::Ready(None)),
+            Poll::Ready(Some(output)) => {
+                self.settle(output).map(|output| Poll::Ready(Some(output)))
+            }
+        };
+        Rounded {
+            poll,
+            notices,
+            turns,
         }
     }
 
     // Polls the set below until it is pending or empty, or gives the output that is next in turn.
     fn poll_tasks(&mut self, post: &[u64]) -> Polled<Option<S::Output>>
-        requires { (Sound S.TaskSet.below S.TaskSet.Inv S.TaskSet.labels (line_of S.TaskSet.model P.Parking.bag P.Parking.places P.Parking.rest self.old)) × ((top_bit self.old.next_outgoing_index ≡ false) × (bearing_index self.old.next_outgoing_index (line_of S.TaskSet.model P.Parking.bag P.Parking.places P.Parking.rest self.old).parked ≡ None)) }
-        ensures answer { result ≡ (from_parked S.TaskSet.below P.Parking.full post.now (line_of S.TaskSet.model P.Parking.bag P.Parking.places P.Parking.rest self.old) None).answer }
-        ensures after { (line_of S.TaskSet.model P.Parking.bag P.Parking.places P.Parking.rest self.new) ≡ (from_parked S.TaskSet.below P.Parking.full post.now (line_of S.TaskSet.model P.Parking.bag P.Parking.places P.Parking.rest self.old) None).set }
-        ensures sound { Sound S.TaskSet.below S.TaskSet.Inv S.TaskSet.labels (line_of S.TaskSet.model P.Parking.bag P.Parking.places P.Parking.rest self.new) }
+        requires { (Sound S.TaskSet P.Parking self.old) × ((top_bit self.old.next_outgoing_index ≡ false) × (bearing_index self.old.next_outgoing_index (line_of S.TaskSet P.Parking self.old).parked ≡ None)) }
+        ensures answer { result ≡ (from_parked S.TaskSet.below P.Parking.full post.now (line_of S.TaskSet P.Parking self.old) None).answer }
+        ensures after { line_of S.TaskSet P.Parking self.new ≡ (from_parked S.TaskSet.below P.Parking.full post.now (line_of S.TaskSet P.Parking self.old) None).set }
+        ensures sound { Sound S.TaskSet P.Parking self.new }
     {
         let mut notices: u32 = 0;
         let mut turns: u32 = 0;
         loop {
             let Rounded {
-                round,
+                poll,
                 notices: more,
                 turns: taken,
             } = self.round(post);
             notices += more;
             turns += taken;
-            match round {
-                Round::Pending => {
-                    return Polled {
-                        poll: Poll::Pending,
-                        notices,
-                        turns,
-                    };
-                }
-                Round::Empty => {
-                    return Polled {
-                        poll: Poll::Ready(None),
-                        notices,
-                        turns,
-                    };
-                }
-                Round::Yielded(output) => {
-                    return Polled {
-                        poll: Poll::Ready(Some(output)),
-                        notices,
-                        turns,
-                    };
-                }
-                Round::Parked => {}
+            if let Some(poll) = poll {
+                return Polled {
+                    poll,
+                    notices,
+                    turns,
+                };
             }
         }
     }
 
     // Yields the output that is next in turn, if it is there. It may have waited; otherwise the tasks are polled.
     pub fn poll(&mut self, post: &[u64]) -> Polled<Option<S::Output>>
-        requires { Sound S.TaskSet.below S.TaskSet.Inv S.TaskSet.labels (line_of S.TaskSet.model P.Parking.bag P.Parking.places P.Parking.rest self.old) }
-        ensures answer { result ≡ (outcome S.TaskSet.below P.Parking.full post.now (line_of S.TaskSet.model P.Parking.bag P.Parking.places P.Parking.rest self.old)).answer }
-        ensures after { (line_of S.TaskSet.model P.Parking.bag P.Parking.places P.Parking.rest self.new) ≡ (outcome S.TaskSet.below P.Parking.full post.now (line_of S.TaskSet.model P.Parking.bag P.Parking.places P.Parking.rest self.old)).set }
-        ensures sound { Sound S.TaskSet.below S.TaskSet.Inv S.TaskSet.labels (line_of S.TaskSet.model P.Parking.bag P.Parking.places P.Parking.rest self.new) }
+        requires { Sound S.TaskSet P.Parking self.old }
+        ensures answer { result ≡ (outcome S.TaskSet.below P.Parking.full post.now (line_of S.TaskSet P.Parking self.old)).answer }
+        ensures after { line_of S.TaskSet P.Parking self.new ≡ (outcome S.TaskSet.below P.Parking.full post.now (line_of S.TaskSet P.Parking self.old)).set }
+        ensures sound { Sound S.TaskSet P.Parking self.new }
     {
         self.housekeep();
         let index = self.next_outgoing_index;

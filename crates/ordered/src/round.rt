@@ -1,20 +1,10 @@
-// What one poll of the set below came to.
-#[derive(Clone, Copy)]
-pub enum Round<O> {
-    // no task is ready
-    Pending,
-    // there is no task
-    Empty,
-    // the output that is next in turn
-    Yielded(O),
-    // another output, which waits for its turn now
-    Parked,
-}
+use tasks::poll::Poll;
 
-// That, and the notices and turns of the poll.
+// What one poll of the set below came to: what the whole poll ends with, or nothing where an output was parked and the poll
+// goes on; and the notices and turns.
 #[derive(Clone, Copy)]
 pub struct Rounded<O> {
-    pub round: Round<O>,
+    pub poll: Option<Poll<Option<O>>>,
     pub notices: u32,
     pub turns: u32,
 }

@@ -1,5 +1,5 @@
 ghost use Rattle.std.specs.Prelude.{◌≡◌, ℕ, ◌≤◌, List};
-ghost use Rattle.ordered.specs.Below.{Below, Label, refusal_of, unwrapped};
+ghost use Rattle.ordered.specs.Below.{Below, Label, leave_of, unwrapped};
 ghost use Rattle.runs.specs.Calls.{hand as Hand, clone as CloneCall, wake as Wake, wake_by_ref as WakeByRef, drop as DropCall, may_end as MayEnd};
 ghost use Rattle.runs.specs.Kinds.{step};
 ghost use Rattle.tasks.specs.declared.order_wrapper.OrderWrapper.{OrderWrapper as Wrapper};
@@ -29,9 +29,9 @@ pub trait TaskSet {
 
     ghost labels: { Model → List Label };
 
-    // Why a push would be refused now.
-    fn refusal(&self) -> Option<Fault>
-        ensures { (w : Wrapper Self.Task) → refusal_of (below.kind.accepts (model self.now) w) ≡ result };
+    // Whether a push would be accepted now.
+    fn may_push(&self) -> Result<(), Fault>
+        ensures { (w : Wrapper Self.Task) → leave_of (below.kind.accepts (model self.now) w) ≡ result };
 
     // Puts a task into the set, with that index.
     fn push(&mut self, task: Self::Task, index: u64) -> Result<usize, Refused<Self::Task>>

@@ -1,9 +1,9 @@
 -- Places that all hold an entry, as they are shuffled, and as one is added or taken away.
-use Rattle.std.proofs.Common.{◌≡◌, ℕ, ◌<◌, ◌≤◌, List, [], ◌∷◌, ◌++◌, map, length, Some, None, Option, sym, refl, ap, ◌∙◌, subst, arith}
-use Rattle.parking.proofs.Moves.{exchanged_alike}
+use Rattle.std.proofs.Common.{◌≡◌, ℕ, ◌<◌, ◌≤◌, List, [], ◌∷◌, ◌++◌, map, length, take, Some, None, Option, sym, refl, ap, ◌∙◌, subst, arith}
 use Rattle.parking.proofs.Ranks.{map_exchanged}
 use Rattle.parking.specs.Places.{entries_in}
-use Rattle.std.proofs.lemmas.List.{length-map, map-append}
+use Rattle.std.proofs.lemmas.List.Elements.{filter_map-append}
+use Rattle.std.proofs.lemmas.List.{length-map, map-append, take-map}
 use Rattle.std.proofs.lemmas.List.Sorted.{IsPermutation-refl, IsPermutation-trans, IsPermutation-swap, IsPermutation-keeps}
 use Rattle.std.specs.List.Sorted.{IsPermutation}
 use Rattle.std.specs.List.{swap}
@@ -26,13 +26,15 @@ module _ {E : Type 0} where
       let e : entries_in ps ≡ es = ap entries_in is ∙ entries_held es in
       (ap held e ∙ sym is, e)
 
+  -- the first of them
+  pub hold_taken : (k : ℕ) (ps : List (Option E)) → AllHold ps → AllHold (take k ps)
+  hold_taken k ps h = (hold_from (take k (entries_in ps)) (take k ps) (ap (λ l. take k l) (sym h) ∙ take-map (λ e. Some e) k (entries_in ps))).0
+
   pub length_held : (ps : List (Option E)) → AllHold ps → length (entries_in ps) ≡ length ps
   length_held ps h = sym (length-map (entries_in ps) (λ e. Some e)) ∙ ap length h
 
   pub entries_append : (ps qs : List (Option E)) → entries_in (ps ++ qs) ≡ entries_in ps ++ entries_in qs
-  entries_append [] qs = refl
-  entries_append (None ∷ ps) qs = entries_append ps qs
-  entries_append (Some e ∷ ps) qs = ap (λ l. e ∷ l) (entries_append ps qs)
+  entries_append ps qs = filter_map-append (λ p. p) ps qs
 
   pub entries_few : (ps : List (Option E)) → length (entries_in ps) ≤ length ps
   entries_few [] = omega arith
@@ -58,10 +60,10 @@ module _ {E : Type 0} where
       let ia : i < length es = omega (arith, n, a) in
       let jb : j < length es = omega (arith, n, b) in
       let is : swap l i j ≡ held (swap es i j)
-      = ap (λ ps. swap ps i j) (sym was.0) ∙ exchanged_alike (held es) i j ∙ sym (map_exchanged (λ e. Some e) es i j ia jb) in
+      = ap (λ ps. swap ps i j) (sym was.0) ∙ sym (map_exchanged (λ e. Some e) es i j ia jb) in
       let now = hold_from (swap es i j) (swap l i j) is in (
         now.0,
-        subst (λ fs. IsPermutation (entries_in xs) fs) (sym now.1) (IsPermutation-trans (entries_in xs) es (swap es i j) was.1 (IsPermutation-swap es (swap es i j) i j ia jb (exchanged_alike es i j))),
+        subst (λ fs. IsPermutation (entries_in xs) fs) (sym now.1) (IsPermutation-trans (entries_in xs) es (swap es i j) was.1 (IsPermutation-swap es (swap es i j) i j ia jb refl)),
       )
 
   -- places that are shuffled

@@ -3,14 +3,13 @@ use Rattle.std.proofs.Common.{◌≡◌, ℕ, ◌<◌, List, [], ◌∷◌, map,
 use Rattle.parking.specs.Heaps.{rank_at}
 use Rattle.std.proofs.lemmas.List.Edits.{Swapped, swapped_from_swap}
 use Rattle.std.proofs.lemmas.List.{get_or-map, get_or-take, get_or-set_other, map-set, length-map, take-map}
-use Rattle.std.specs.List as holes
 use Rattle.std.specs.List.{swap}
 
 -- an entry that was read
 pub rank_read : {X : Type 0} (rank : X → ℕ) (xs : List X) (i : ℕ) (x : X) → i < length xs → x ≡ get_or xs i x → rank x ≡ rank_at rank xs i
 rank_read rank xs i x within is = ap rank is ∙ sym (get_or-map rank xs i x 0 within)
 
-pub map_exchanged : {X Y : Type 0} (f : X → Y) (xs : List X) (i j : ℕ) → i < length xs → j < length xs → map f (swap xs i j) ≡ holes.swap (map f xs) i j
+pub map_exchanged : {X Y : Type 0} (f : X → Y) (xs : List X) (i j : ℕ) → i < length xs → j < length xs → map f (swap xs i j) ≡ swap (map f xs) i j
 map_exchanged f [] i j a b = refl
 map_exchanged f (d ∷ xs) i j a b =
     let s = map-set f (set (d ∷ xs) i (get_or (d ∷ xs) j d)) j (get_or (d ∷ xs) i d) in

@@ -1,6 +1,7 @@
 -- The bag of parked pairs of index and output.
 use Rattle.std.specs.Prelude.{◌≡◌, ℕ, ◌+◌, ◌^◌, ◌≤◌, Bool, cond, ◌&&◌, List, ◌∷◌, map, length, Some, None, Ok, Err, count_by, Option, Result, ◌==◌, nat_le, nat_lt}
 use Rattle.std.specs.List.Sorted.{IsPermutation}
+use Rattle.parking.specs.declared.parking.Unfit.{Unfit}
 use Rattle.tasks.specs.Orders.{wrapper_flipped}
 use Rattle.tasks.specs.declared.order_wrapper.OrderWrapper.{OrderWrapper}
 
@@ -35,6 +36,6 @@ module _ {O : Type 0} where
   Taken i bag (Some x) after = IsPermutation bag (pair i x ∷ after)
 
   -- The top bit of every index is flipped, or nothing is altered where the pairs would not fit.
-  abbrev pub Flipped : ℕ → List (OrderWrapper O) → Bool → List (OrderWrapper O) → Type 0
-  Flipped places bag ok after =
-      cond ok (IsPermutation (map wrapper_flipped bag) after) ((after ≡ bag) × (Fits places (map wrapper_flipped bag) → ⊥))
+  abbrev pub Flipped : ℕ → List (OrderWrapper O) → Result (Unit {0}) Unfit → List (OrderWrapper O) → Type 0
+  Flipped places bag (Ok u) after = IsPermutation (map wrapper_flipped bag) after
+  Flipped places bag (Err e) after = (after ≡ bag) × (Fits places (map wrapper_flipped bag) → ⊥)

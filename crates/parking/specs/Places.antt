@@ -1,7 +1,7 @@
 -- Parking places, some of which hold an entry.
-use Rattle.std.specs.Prelude.{◌≡◌, ℕ, suc, ◌<◌, List, [], ◌∷◌, Some, None, Option, ◌≢◌}
+use Rattle.std.specs.Prelude.{◌≡◌, ℕ, suc, ◌<◌, List, length, Some, None, Option, ◌≢◌}
 use Rattle.parking.specs.Heaps.{rank_at}
-use Rattle.std.specs.List.Sorted.{IsPermutation}
+use Rattle.std.specs.List.{filter_map}
 use Rattle.tasks.specs.declared.order_wrapper.OrderWrapper.{OrderWrapper}
 
 -- An empty place ranks below any that holds an entry.
@@ -11,21 +11,17 @@ place_rank rank (Some e) = suc (rank e)
 
 -- The entries that places hold.
 abbrev pub entries_in : {E : Type 0} → List (Option E) → List E
-entries_in [] = []
-entries_in (None ∷ places) = entries_in places
-entries_in (Some e ∷ places) = e ∷ entries_in places
+entries_in places = filter_map (λ place. place) places
 
--- A place gave an entry, which is out of the bag then.
-pub record Gave {E : Type 0} (bag : List E) (r : Option E) (after : List E) : Type 0 where
-  pub entry : E
-  pub is : r ≡ Some entry
-  pub rest : IsPermutation bag (entry ∷ after)
+-- Each place holds an entry.
+abbrev pub Filled : {E : Type 0} → List (Option E) → Type 0
+Filled places = length (entries_in places) ≡ length places
 
 -- The index of a pair, by which it ranks.
 abbrev pub index_of : {O : Type 0} → OrderWrapper O → ℕ
 index_of w = w.index
 
--- The place of the first pair that has an index, among the first n; nothing where none has it.
-abbrev pub FoundAt : {O : Type 0} → List (Option (OrderWrapper O)) → ℕ → ℕ → Option ℕ → Type 0
-FoundAt places n index None = (k : ℕ) → k < n → rank_at (place_rank index_of) places k ≢ suc index
-FoundAt places n index (Some at) = (at < n) × (rank_at (place_rank index_of) places at ≡ suc index)
+-- A place whose pair has an index; nothing where none has it.
+abbrev pub FoundAt : {O : Type 0} → List (Option (OrderWrapper O)) → ℕ → Option ℕ → Type 0
+FoundAt places index None = (k : ℕ) → k < length places → rank_at (place_rank index_of) places k ≢ suc index
+FoundAt places index (Some at) = (at < length places) × (rank_at (place_rank index_of) places at ≡ suc index)

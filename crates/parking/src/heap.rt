@@ -18,6 +18,7 @@ pub fn sift_up<T: Rank + Copy>(entries: &mut [T], at: usize)
     ensures order { InOrder (rank_at T.Rank.rank entries.new) (at + 1) }
     ensures same { IsPermutation entries.old entries.new }
 {
+    // the place is halved each time, which no iterator does
     let mut i = at;
     while i > 0 {
         let parent = (i - 1) / 2;
@@ -47,6 +48,7 @@ pub fn sift_down<T: Rank + Copy>(entries: &mut [T])
     ensures order { Heaped T.Rank.rank entries.new }
     ensures same { IsPermutation entries.old entries.new }
 {
+    // the place is doubled each time, or doubled and raised, which no iterator does
     let mut i = 0;
     while i < entries.len() / 2 {
         let child = least_child(entries, i);
@@ -58,13 +60,12 @@ pub fn sift_down<T: Rank + Copy>(entries: &mut [T])
     }
 }
 
-// Puts all entries in order.
+// Puts all entries in order. Each step changes the slice, so it goes over places and not over entries.
 pub fn put_in_order<T: Rank + Copy>(entries: &mut [T])
     ensures order { Heaped T.Rank.rank entries.new }
     ensures same { IsPermutation entries.old entries.new }
 {
-    let n = entries.len();
-    for i in 0..n {
+    for i in 0..entries.len() {
         sift_up(entries, i);
     }
 }
@@ -81,9 +82,9 @@ pub fn move_to_end<T: Rank + Copy>(entries: &mut [T], at: usize) -> T
     let moved = entries[at];
     entries.swap(at, last);
     if at == 0 {
-        sift_down(&mut entries[0..last]);
+        sift_down(&mut entries[..last]);
     } else {
-        put_in_order(&mut entries[0..last]);
+        put_in_order(&mut entries[..last]);
     }
     moved
 }

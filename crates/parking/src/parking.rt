@@ -5,6 +5,10 @@ ghost use Rattle.tasks.specs.declared.order_wrapper.OrderWrapper.{OrderWrapper a
 
 use tasks::fault::Fault;
 
+// Why indices are not flipped: with their top bits flipped the pairs would not fit.
+#[derive(Clone, Copy, PartialEq, Debug)]
+pub struct Unfit;
+
 // Places for finished outputs that wait for their turn, each with its index: at most 65,536. A parking is told by the bag
 // of its pairs and the number of its places.
 pub trait Parking {
@@ -58,8 +62,8 @@ pub trait Parking {
     fn count(&self) -> usize
         ensures { result ≡ length (bag self.now) };
 
-    // Flips the top bit of every index; false where that is refused.
-    fn flip(&mut self) -> bool
+    // Flips the top bit of every index, or refuses and alters nothing.
+    fn flip(&mut self) -> Result<(), Unfit>
         ensures bag { Flipped (places self.old) (bag self.old) result (bag self.new) }
         ensures places { places self.new ≡ places self.old }
         ensures rest { rest self.new ≡ rest self.old };

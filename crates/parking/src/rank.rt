@@ -3,7 +3,8 @@ ghost use Rattle.parking.specs.Places.{place_rank};
 
 use tasks::order_wrapper::OrderWrapper;
 
-// A value that has a rank. Two values may have the same.
+// A value that has a rank. Two values may have the same. `Ord` is no plainer: outputs need not be comparable, and by its
+// laws two values that tie would be equal.
 pub trait Rank {
     ghost rank: { Self → ℕ };
 
@@ -15,12 +16,10 @@ impl<E: Rank> Rank for Option<E> {
     ghost rank = { place_rank E.Rank.rank };
 
     fn is_below(&self, other: &Option<E>) -> bool {
-        match self {
-            None => other.is_some(),
-            Some(a) => match other {
-                None => false,
-                Some(b) => a.is_below(b),
-            },
+        match (self, other) {
+            (Some(a), Some(b)) => a.is_below(b),
+            (None, Some(_)) => true,
+            (_, None) => false,
         }
     }
 }

@@ -1,10 +1,7 @@
-ghost use Rattle.std.specs.Prelude.{◌≡◌, ℕ, suc, ◌+◌, ◌-◌, ◌<◌, ◌≤◌, min, [], ◌∷◌, map, length, drop, Some, slice_set};
-ghost use Rattle.parking.specs.Bags.{Taken};
+ghost use Rattle.std.specs.Prelude.{◌≡◌, ◌-◌, ◌<◌, ◌≤◌, length, take, Some, slice_set};
 ghost use Rattle.parking.specs.Heaps.{InOrder, rank_at, Heaped};
-ghost use Rattle.parking.specs.Held.{held, used, with_bag, Sound};
-ghost use Rattle.parking.specs.Places.{place_rank, index_of, Gave, FoundAt};
+ghost use Rattle.parking.specs.Places.{place_rank, Filled};
 ghost use Rattle.std.specs.List.Sorted.{IsPermutation};
-ghost use Rattle.tasks.specs.Orders.{wrapper_flipped};
 
 use crate::heap::{move_to_end, sift_up};
 use crate::pairs::{find_in, flip_in};
@@ -14,11 +11,18 @@ use tasks::order_wrapper::OrderWrapper;
 // A heap has at most that many places.
 const MOST_PLACES: usize = 65536;
 
-// A heap of entries in the first places of the caller's memory; the entry that ranks least is in front.
-pub struct RankHeap<'a, E> {
+// A heap of entries in the first places of the caller's memory; the entry that ranks least is in front. Its places lie in
+// the memory and are at most 65,536, no more are used than there are, and those used hold an entry each and are in order.
+// Nothing is allocated, so the numbers of places and of entries stand beside the memory.
+pub struct RankHeap<'a, E: Rank> {
     memory: &'a mut [Option<E>],
     places: usize,
     count: usize,
+    ghost within: { places ≤ length memory.now },
+    ghost cut: { places ≤ 65536 },
+    ghost few: { count ≤ places },
+    ghost holding: { Filled (take count memory.now) },
+    ghost in_order: { Heaped (place_rank E.Rank.rank) (take count memory.now) },
 }
 
 // Puts an entry into the last place; the others are in order.
@@ -33,10 +37,12 @@ fn put_last<E: Rank + Copy>(places: &mut [Option<E>], entry: E)
 }
 
 impl<'a, E: Rank + Copy> RankHeap<'a, E> {
+    ghost use Rattle.std.specs.Prelude.{[], ◌∷◌, min, drop};
+    ghost use Rattle.parking.specs.Held.{held, used, with_bag};
+
     // An empty heap in that memory, whatever it holds.
     pub fn new(memory: &'a mut [Option<E>]) -> RankHeap<'a, E>
         ensures fresh { held result ≡ record { bag = []; places = min (length memory.old) 65536; beyond = drop (min (length memory.old) 65536) memory.old } }
-        ensures sound { Sound E.Rank.rank result }
     {
         let places = memory.len().min(MOST_PLACES);
         RankHeap {
@@ -48,16 +54,13 @@ impl<'a, E: Rank + Copy> RankHeap<'a, E> {
 
     // Takes everything out.
     pub fn clear(&mut self)
-        requires { Sound E.Rank.rank self.old }
         ensures after { held self.new ≡ with_bag (held self.old) [] }
-        ensures sound { Sound E.Rank.rank self.new }
     {
         self.count = 0;
     }
 
     // How many entries there are.
     pub fn count(&self) -> usize
-        requires { Sound E.Rank.rank self.now }
         ensures bag { result ≡ length (held self.now).bag }
         ensures field { result ≡ self.now.count }
     {
@@ -73,29 +76,24 @@ impl<'a, E: Rank + Copy> RankHeap<'a, E> {
 
     // Puts an entry in.
     pub fn put(&mut self, entry: E)
-        requires { (Sound E.Rank.rank self.old) × (self.old.count < self.old.places) }
+        requires { self.old.count < self.old.places }
         ensures bag { IsPermutation (entry ∷ (held self.old).bag) (held self.new).bag }
         ensures rest { held self.new ≡ with_bag (held self.old) (held self.new).bag }
-        ensures sound { Sound E.Rank.rank self.new }
     {
-        let end = self.count + 1;
-        put_last(&mut self.memory[0..end], entry);
-        self.count = end;
+        put_last(&mut self.memory[..self.count + 1], entry);
+        self.count += 1;
     }
 
     // Takes out the entry at a place.
-    pub fn take_at(&mut self, at: usize) -> Option<E>
-        requires { (Sound E.Rank.rank self.old) × (at < self.old.count) }
-        ensures gave { Gave (held self.old).bag result (held self.new).bag }
-        ensures rank { place_rank E.Rank.rank result ≡ rank_at (place_rank E.Rank.rank) (used self.old) at }
+    pub fn take_at(&mut self, at: usize) -> E
+        requires { at < self.old.count }
+        ensures bag { IsPermutation (held self.old).bag (result ∷ (held self.new).bag) }
+        ensures rank { place_rank E.Rank.rank (Some result) ≡ rank_at (place_rank E.Rank.rank) (used self.old) at }
         ensures rest { held self.new ≡ with_bag (held self.old) (held self.new).bag }
-        ensures sound { Sound E.Rank.rank self.new }
     {
         let end = self.count;
-        let last = end - 1;
-        let taken = move_to_end(&mut self.memory[0..end], at);
-        self.count = last;
-        taken
+        self.count = end - 1;
+        move_to_end(&mut self.memory[..end], at).unwrap()
     }
 
     // Gives the memory back as it is.
@@ -112,38 +110,33 @@ impl<'a, E: Rank + Copy> RankHeap<'a, E> {
 }
 
 impl<'a, O: Copy> RankHeap<'a, OrderWrapper<O>> {
+    ghost use Rattle.std.specs.Prelude.{map};
+    ghost use Rattle.parking.specs.Bags.{Taken};
+    ghost use Rattle.parking.specs.Held.{held, used, with_bag};
+    ghost use Rattle.parking.specs.Places.{FoundAt};
+    ghost use Rattle.tasks.specs.Orders.{wrapper_flipped};
+
     // The place of the pair with that index.
     fn find(&self, index: u64) -> Option<usize>
-        requires { Sound index_of self.now }
-        ensures { FoundAt self.now.memory.now self.now.count index result }
+        ensures { FoundAt (used self.now) index result }
     {
-        find_in(self.memory, self.count, index)
+        find_in(&self.memory[..self.count], index)
     }
 
     // Takes out the pair with that index, if it is there, and answers its output.
     pub fn take(&mut self, index: u64) -> Option<O>
-        requires { Sound index_of self.old }
         ensures taken { Taken index (held self.old).bag result (held self.new).bag }
         ensures rest { held self.new ≡ with_bag (held self.old) (held self.new).bag }
-        ensures sound { Sound index_of self.new }
     {
-        match self.find(index) {
-            None => None,
-            Some(at) => match self.take_at(at) {
-                Some(pair) => Some(pair.data),
-                None => None,
-            },
-        }
+        let at = self.find(index)?;
+        Some(self.take_at(at).data)
     }
 
     // Flips the top bit of every index.
     pub fn flip(&mut self)
-        requires { Sound index_of self.old }
         ensures bag { IsPermutation (map wrapper_flipped (held self.old).bag) (held self.new).bag }
         ensures rest { held self.new ≡ with_bag (held self.old) (held self.new).bag }
-        ensures sound { Sound index_of self.new }
     {
-        let end = self.count;
-        flip_in(&mut self.memory[0..end]);
+        flip_in(&mut self.memory[..self.count]);
     }
 }

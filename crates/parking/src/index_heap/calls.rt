@@ -5,7 +5,7 @@ ghost use Rattle.tasks.specs.declared.fault.Fault.TheVariants.{ParkingFull};
 ghost use Rattle.tasks.specs.declared.order_wrapper.OrderWrapper.{OrderWrapper as Pair};
 
 use crate::index_heap::IndexHeap;
-use crate::parking::Parking;
+use crate::parking::{Parking, Unfit};
 use crate::rank_heap::RankHeap;
 use tasks::fault::Fault;
 use tasks::order_wrapper::OrderWrapper;
@@ -75,8 +75,8 @@ impl<'a, O: Copy> Parking for IndexHeap<'a, O> {
         self.heap.count()
     }
 
-    fn flip(&mut self) -> bool {
+    fn flip(&mut self) -> Result<(), Unfit> {
         self.heap.flip();
-        true
+        Ok(())
     }
 }

@@ -1,6 +1,5 @@
 use Rattle.std.proofs.Common.{◌≡◌, ◌-◌, length, take, sym, ap, ◌∙◌, subst, arith}
-use borrow.Rule.Slice.PartMut.{put_mid}
-use Rattle.parking.proofs.Moves.{Moved, moved, first_out}
+use Rattle.parking.proofs.Moves.{moved, first_out}
 use Rattle.parking.proofs.Ranks.{rank_read}
 use Rattle.parking.proofs.heap.move_to_end.Goals as goal
 use Rattle.parking.specs.Heaps.{rank_at, ButBelow, Heaped}
@@ -12,18 +11,14 @@ sift_down-requires g c =
     let xs = c.args.entries.now in
     let zs = c.swap.new.self in
     let last = length xs - 1 in
-    let n : length (take (last - 0) zs) ≡ last = length-take-le (last - 0) zs (omega (arith, c.swap.ensures.len)) ∙ omega arith in
-    subst (λ m. ButBelow (rank_at g.T.Rank.rank (take (last - 0) zs)) m 0) (sym n)
-    (first_out g.T.Rank.rank xs zs last (last - 0) (omega arith) (c.swap.ensures.after ∙ ap (λ a. swap xs a last) c.if-at-eq0.true) c.requires.1 (omega arith))
+    let n : length (take last zs) ≡ last = length-take-le last zs (omega (arith, c.swap.ensures.len)) in
+    subst (λ m. ButBelow (rank_at g.T.Rank.rank (take last zs)) m 0) (sym n)
+    (first_out g.T.Rank.rank xs zs last (omega arith) (c.swap.ensures.after ∙ ap (λ a. swap xs a last) c.if-at-eq0.true) c.requires.1)
 
 pub returns-then-at-eq0 : goal.returns-then-at-eq0
 returns-then-at-eq0 g c =
     let xs = c.args.entries.now in
-    let zs = c.swap.new.self in
-    let ys = c.sift_down.new.entries in
-    let last = length xs - 1 in
-    let m : Moved xs ys (put_mid 0 (last - 0) zs ys) c.args.at last
-    = moved xs zs ys c.args.at last (omega arith) c.requires.0 c.swap.ensures.len c.swap.ensures.after c.swap.ensures.permutation c.sift_down.ensures.same in
+    let m = moved xs c.swap.new.self c.sift_down.new.entries c.args.at (length xs - 1) (omega arith) c.requires.0 c.swap.ensures.len c.swap.ensures.after c.swap.ensures.permutation c.sift_down.ensures.same in
     record {
       order = subst (λ l. Heaped g.T.Rank.rank l) (sym m.front) c.sift_down.ensures.order;
       same = m.same;
@@ -34,11 +29,7 @@ returns-then-at-eq0 g c =
 pub returns-else-at-eq0 : goal.returns-else-at-eq0
 returns-else-at-eq0 g c =
     let xs = c.args.entries.now in
-    let zs = c.swap.new.self in
-    let ys = c.put_in_order.new.entries in
-    let last = length xs - 1 in
-    let m : Moved xs ys (put_mid 0 (last - 0) zs ys) c.args.at last
-    = moved xs zs ys c.args.at last (omega arith) c.requires.0 c.swap.ensures.len c.swap.ensures.after c.swap.ensures.permutation c.put_in_order.ensures.same in
+    let m = moved xs c.swap.new.self c.put_in_order.new.entries c.args.at (length xs - 1) (omega arith) c.requires.0 c.swap.ensures.len c.swap.ensures.after c.swap.ensures.permutation c.put_in_order.ensures.same in
     record {
       order = subst (λ l. Heaped g.T.Rank.rank l) (sym m.front) c.put_in_order.ensures.order;
       same = m.same;

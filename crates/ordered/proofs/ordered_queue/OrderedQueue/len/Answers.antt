@@ -11,5 +11,5 @@ returns g c =
 pub overflow_add-result : goal.overflow_add-result
 overflow_add-result g c =
     let q = c.args.self.now in
-    let few = held_few g.S.TaskSet.below g.P.Parking.full g.S.TaskSet.Inv g.S.TaskSet.labels (line_of g.S.TaskSet.model g.P.Parking.bag g.P.Parking.places g.P.Parking.rest q) c.requires in
+    let few = held_few g.S.TaskSet g.P.Parking (line_of g.S.TaskSet g.P.Parking q) c.requires in
     omega (arith, few.0, few.1, c.len.ensures, c.count.ensures, length_ascending (g.P.Parking.bag q.queued_outputs))

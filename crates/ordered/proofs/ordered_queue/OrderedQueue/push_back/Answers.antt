@@ -1,22 +1,19 @@
-use Rattle.ordered.proofs.Queues.{pushed_back, push_refused}
+use Rattle.std.proofs.Common.{◌≡◌, Err, refl, ap, rules}
+use Rattle.ordered.proofs.Queues.{handed_back, pushed_as}
 use Rattle.ordered.proofs.ordered_queue.OrderedQueue.push_back.Goals as goal
-use Rattle.ordered.specs.Ordered.{back}
+use Rattle.ordered.specs.Ordered.{Ordered, back}
 use Rattle.ordered.specs.Queue.{line_of}
+use Rattle.tasks.specs.Orders.{index_raised}
 
-pub returns-in-Ok : goal.returns-in-Ok
-returns-in-Ok g c =
-    let line = line_of g.S.TaskSet.model g.P.Parking.bag g.P.Parking.places g.P.Parking.rest in
-    let q = c.args.self.now in
-    let t = c.secure_one.new.self in
-    let both = pushed_back g.S.TaskSet.below g.P.Parking.full g.S.TaskSet.Inv g.S.TaskSet.labels (line q) (line t) c.args.task (g.S.TaskSet.model c.push.new.self) c.push.result
-    (g.P.Parking.secures q.queued_outputs) c.in-Ok.ensures c.push.ensures.answer c.push.ensures.after c.requires in
-    record { pushed = both.0; sound = both.1 }
+pub returns-in_err-address-clause-pushed : goal.returns-in_err-address-clause-pushed
+returns-in_err-address-clause-pushed g c =
+    let line = line_of g.S.TaskSet g.P.Parking in
+    let possible = g.P.Parking.secures c.args.self.now.queued_outputs in
+    let r = c.in_err-address.field-0.0 in
+    let is : c.from_residual.result ≡ Err r = search rules in
+    rw is (handed_back g.S.TaskSet g.P.Parking (line c.args.self.now) (line c.push.new.self) back (record { «data» = c.args.task; index = c.args.self.now.next_incoming_index }) r possible c.in_err-address.ensures c.requires).0
 
-pub returns-in-Err : goal.returns-in-Err
-returns-in-Err g c =
-    let line = line_of g.S.TaskSet.model g.P.Parking.bag g.P.Parking.places g.P.Parking.rest in
-    let q = c.args.self.now in
-    let e = c.in-Err.ensures in
-    let both = push_refused g.S.TaskSet.below g.P.Parking.full g.S.TaskSet.Inv g.S.TaskSet.labels (line q) back c.args.task (line c.secure_one.new.self) c.in-Err.fault
-    (g.P.Parking.secures q.queued_outputs) e.0 e.1 c.requires in
-    record { pushed = both.0; sound = both.1 }
+pub returns-clause-sound : goal.returns-clause-sound
+returns-clause-sound g c =
+    let line = line_of g.S.TaskSet g.P.Parking in
+    (pushed_as g.S.TaskSet g.P.Parking (line c.args.self.now) (line c.push.new.self) back c.args.task c.in_ok-address.address (index_raised c.args.self.now.next_incoming_index) c.push.new.self.next_outgoing_index (g.P.Parking.secures c.args.self.now.queued_outputs) c.in_ok-address.ensures c.requires refl (ap (λ (u : Ordered _ _ _). u.outgoing) c.in_ok-address.ensures.2)).1

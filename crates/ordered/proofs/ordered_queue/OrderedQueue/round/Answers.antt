@@ -5,9 +5,9 @@ use Rattle.ordered.specs.Queue.{line_of}
 use Rattle.tasks.specs.declared.poll.Poll.TheVariants.{Ready}
 use Rattle.tasks.specs.declared.poll.Polled.{Polled}
 
-pub settle-round-requires : goal.settle-round-requires
-settle-round-requires g c = λ ne.
+pub settle-requires : goal.settle-requires
+settle-requires g c = λ ne.
     let q = c.args.self.now in
-    let s = line_of g.S.TaskSet.model g.P.Parking.bag g.P.Parking.places g.P.Parking.rest q in
-    fits_round g.S.TaskSet.below g.P.Parking.full g.S.TaskSet.Inv g.S.TaskSet.labels s (g.P.Parking.bag q.queued_outputs) c.args.post.now c.in-Some.wrapper c.requires.0 refl c.requires.1
-    (ap (λ (p : Polled _). p.poll) (sym c.poll-poll.ensures.answer) ∙ c.in-Ready.is ∙ ap (λ x. Ready x) c.in-Some.is)
+    let r = c.in-Ready-Some in
+    fits_round g.S.TaskSet g.P.Parking (line_of g.S.TaskSet g.P.Parking q) (g.P.Parking.bag q.queued_outputs) c.args.post.now r.output c.requires.0 refl c.requires.1
+    (ap (λ (p : Polled _). p.poll) (sym c.poll-poll.ensures.answer) ∙ r.is ∙ ap (λ x. Ready x) r.field-0-is)

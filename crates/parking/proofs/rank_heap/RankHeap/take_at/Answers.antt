@@ -1,37 +1,51 @@
-use Rattle.std.proofs.Common.{◌≡◌, ◌-◌, ◌≤◌, List, length, take, Option, sym, ap, subst, arith}
-use borrow.Rule.Slice.PartMut.{put_mid}
-use Rattle.parking.proofs.HeapParts.{taken_out}
-use Rattle.parking.proofs.Holding.{hold_all, length_held}
+use Rattle.std.proofs.Common.{◌≡◌, ◌-◌, ◌≤◌, List, ◌++◌, drop, length, take, is_some, Option, sym, ap, ◌∙◌, subst, arith}
+use Rattle.parking.proofs.HeapParts.{Gave, gave_it, taken_out, filled_fewer, order_fewer}
 use Rattle.parking.proofs.rank_heap.RankHeap.take_at.Goals as goal
 use Rattle.parking.specs.Heaps.{Heaped}
 use Rattle.parking.specs.Held.{Held, used}
-use Rattle.parking.specs.Places.{place_rank, entries_in, Gave}
-use Rattle.std.proofs.lemmas.List.Edits.{length-between}
-use Rattle.std.specs.List.{between}
+use Rattle.parking.specs.Places.{place_rank, entries_in, Filled}
+use Rattle.std.proofs.lemmas.List.{length-take-le}
 
-pub move_to_end-taken-requires : goal.move_to_end-taken-requires
-move_to_end-taken-requires g c =
+pub invariant_of-self : goal.invariant_of-self
+invariant_of-self g c =
     let h = c.args.self.now in
-    (omega (arith, c.requires.1, c.requires.0.0, c.requires.0.2, length-between h.memory.now 0 h.count (omega (arith, c.requires.0.0, c.requires.0.2))), c.requires.0.4)
+    record {
+      within = h.within;
+      cut = h.cut;
+      few = omega (arith, h.few);
+      holding = filled_fewer h.memory.now (h.count - 1) h.count (omega arith) h.holding;
+      in_order = order_fewer g.E.Rank.rank h.memory.now (h.count - 1) h.count (omega arith) (omega (arith, h.within, h.few)) h.in_order;
+    }
 
-pub returns : goal.returns
-returns g c =
+pub invariant_of-self-2 : goal.invariant_of-self-2
+invariant_of-self-2 g c =
     let h = c.args.self.now in
     let xs = h.memory.now in
-    let ys = c.move_to_end-taken.new.entries in
-    let r = c.move_to_end-taken.result in
-    let p = taken_out g.E.Rank.rank xs h.count h.places c.requires.0.0 c.requires.0.2 (hold_all (used h) c.requires.0.3) c.requires.0.4 r ys (omega (arith, c.requires.1)) c.move_to_end-taken.ensures.same c.move_to_end-taken.ensures.last in
-    let last : length (between 0 h.count xs) - 1 ≡ h.count - 1 = omega (arith, length-between xs 0 h.count (omega (arith, c.requires.0.0, c.requires.0.2))) in
-    let order : Heaped (place_rank g.E.Rank.rank) (take (h.count - 1) ys) = subst (λ n. Heaped (place_rank g.E.Rank.rank) (take n ys)) last c.move_to_end-taken.ensures.order in
+    let ys = c.move_to_end.new.entries in
+    let t = taken_out h c.move_to_end.result ys (omega (arith, c.requires)) c.move_to_end.ensures.same c.move_to_end.ensures.last in
+    let last : length (take h.count xs) - 1 ≡ h.count - 1 = omega (arith, length-take-le h.count xs (omega (arith, h.within, h.few))) in
     record {
-      gave = subst (λ l. Gave (entries_in (used h)) r (entries_in l)) (sym p.used) p.gave;
-      rank = c.move_to_end-taken.ensures.rank;
-      rest = ap (λ (l : List (Option g.row.E.Denot)). let k : Held g.row.E.Denot = record { bag = entries_in (between 0 (h.count - 1) (put_mid 0 (h.count - 0) xs ys)); places = h.places; beyond = l } in k) p.beyond;
-      sound = (
-        subst (λ n. h.places ≤ n) (sym p.long) c.requires.0.0,
-        c.requires.0.1,
-        omega (arith, c.requires.0.2),
-        subst (λ l. length (entries_in l) ≡ length l) (sym p.used) (length_held _ p.hold_still),
-        subst (λ l. Heaped (place_rank g.E.Rank.rank) l) (sym p.used) order,
-      );
+      within = subst (λ n. h.places ≤ n) (sym t.part.long) h.within;
+      cut = h.cut;
+      few = omega (arith, h.few);
+      holding = subst (λ l. Filled l) (sym t.front) t.filled;
+      in_order = subst (λ l. Heaped (place_rank g.E.Rank.rank) l) (ap (λ n. take n ys) last ∙ sym t.front) c.move_to_end.ensures.order;
     }
+
+pub unwrap-requires : goal.unwrap-requires
+unwrap-requires g c =
+    let h = c.args.self.now in
+    let t = taken_out h c.move_to_end.result c.move_to_end.new.entries (omega (arith, c.requires)) c.move_to_end.ensures.same c.move_to_end.ensures.last in
+    ap is_some t.gave.is
+
+pub returns-clause-bag : goal.returns-clause-bag
+returns-clause-bag g c =
+    let h = c.args.self.now in
+    let t = taken_out h c.move_to_end.result c.move_to_end.new.entries (omega (arith, c.requires)) c.move_to_end.ensures.same c.move_to_end.ensures.last in
+    gave_it (entries_in (used h)) _ c.move_to_end.result c.unwrap.result (subst (λ l. Gave (entries_in (used h)) c.move_to_end.result (entries_in l)) (sym t.front) t.gave) c.unwrap.ensures
+
+pub returns-clause-rest : goal.returns-clause-rest
+returns-clause-rest g c =
+    let h = c.args.self.now in
+    let t = taken_out h c.move_to_end.result c.move_to_end.new.entries (omega (arith, c.requires)) c.move_to_end.ensures.same c.move_to_end.ensures.last in
+    ap (λ (l : List (Option g.row.E.Denot)). let k : Held g.row.E.Denot = record { bag = entries_in (take (h.count - 1) (c.move_to_end.new.entries ++ drop h.count h.memory.now)); places = h.places; beyond = l } in k) t.part.beyond
