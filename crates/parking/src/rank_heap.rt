@@ -96,7 +96,7 @@ impl<'a, E: Rank + Copy> RankHeap<'a, E> {
         move_to_end(&mut self.memory[..end], at).unwrap()
     }
 
-    // Gives the memory back as it is.
+    // Gives the memory back as it is. A heap is not Drop, so it is taken apart to get at it, here and in what holds a heap.
     pub fn into_memory(self) -> &'a mut [Option<E>]
         ensures { result.now ≡ self.entry.memory.now }
     {
@@ -116,7 +116,7 @@ impl<'a, O: Copy> RankHeap<'a, OrderWrapper<O>> {
     ghost use Rattle.parking.specs.Places.{FoundAt};
     ghost use Rattle.tasks.specs.Orders.{wrapper_flipped};
 
-    // The place of the pair with that index.
+    // The place of the pair with that index. It stands apart from `take`, in which the checker covers no such read.
     fn find(&self, index: u64) -> Option<usize>
         ensures { FoundAt (used self.now) index result }
     {
