@@ -18,8 +18,6 @@ use wakes::waker::RawWaker;
 // What a line says, or why it cannot be read.
 #[derive(Clone, Copy)]
 pub enum Line {
-    // it is blank, or a comment
-    Silent,
     Make(Result<Make, Reason>),
     Call(Result<Call, Reason>),
 }
@@ -148,17 +146,13 @@ fn read_call(
     Ok(call)
 }
 
-// Reads the words of a line. Where it is a call that can be read, the words that are left are the answer.
-pub fn read(words: &mut SplitWhitespace<'_>, post: &mut Vec<u64>) -> Line {
-    match words.next() {
-        None => Line::Silent,
-        Some("make") => Line::Make(make::read_make(words)),
-        Some(first) => {
-            if first.starts_with('#') {
-                return Line::Silent;
-            }
-            Line::Call(read_call(first, words, post))
-        }
+// Reads the words of a line; a blank line and a comment say nothing. Where it is a call that can be read, the words
+// that are left are the answer.
+pub fn read(words: &mut SplitWhitespace<'_>, post: &mut Vec<u64>) -> Option<Line> {
+    match words.next()? {
+        "make" => Some(Line::Make(make::read_make(words))),
+        first if first.starts_with('#') => None,
+        first => Some(Line::Call(read_call(first, words, post))),
     }
 }
 
@@ -172,17 +166,14 @@ fn add(text: &mut String, word: &str) -> Result<(), AllocError> {
 
 // The call of a line and its answer, each with one space between its words.
 pub fn parts(heap: Global, line: &str) -> Result<(String, String), AllocError> {
+    let mut words = line.split_whitespace();
     let mut call = String::new(heap);
+    for word in words.by_ref().take_while(|word| *word != "=>") {
+        add(&mut call, word)?;
+    }
     let mut answer = String::new(heap);
-    let mut in_answer = false;
-    for word in line.split_whitespace() {
-        if in_answer {
-            add(&mut answer, word)?;
-        } else if word == "=>" {
-            in_answer = true;
-        } else {
-            add(&mut call, word)?;
-        }
+    for word in words {
+        add(&mut answer, word)?;
     }
     Ok((call, answer))
 }

@@ -31,21 +31,16 @@ pub fn number(word: &str) -> Result<u64, Reason>
     if word.starts_with('+') {
         return Err(Reason::BadNumber);
     }
-    match word.parse::<u64>() {
-        Ok(n) => Ok(n),
-        Err(_) => Err(Reason::BadNumber),
-    }
+    Ok(word.parse()?)
 }
 
 pub fn small_number(word: &str) -> Result<u32, Reason>
     ensures { Decimal 32 word.now result }
 {
-    match u32::try_from(number(word)?) {
-        Ok(n) => Ok(n),
-        Err(_) => Err(Reason::BadNumber),
-    }
+    Ok(u32::try_from(number(word)?)?)
 }
 
+// `parse` reads a bool from the words `true` and `false`.
 pub fn flag(word: &str) -> Result<bool, Reason>
     ensures { IfOk result (λ b. word.now ≡ flag_word b) }
 {
@@ -86,9 +81,7 @@ pub fn read_post(words: &mut SplitWhitespace<'_>, post: &mut Vec<u64>) -> Result
         if word == "=>" {
             return Ok(());
         }
-        if post.push(number(word)?).is_err() {
-            return Err(Reason::NoMemory);
-        }
+        post.push(number(word)?)?;
     }
     Err(Reason::NoAnswer)
 }
