@@ -1,5 +1,5 @@
 -- What the words of a recording stand for.
-use Rattle.std.specs.Prelude.{ℕ, ◌^◌, ◌<◌, Bool, cond, List, codes, Result}
+use Rattle.std.specs.Prelude.{◌≡◌, ℕ, ◌^◌, ◌<◌, Bool, cond, List, codes, Result, MatchResult}
 use Rattle.recordings.specs.declared.call.Call.{Call}
 use Rattle.recordings.specs.declared.call.Call.TheVariants.{Push, PushBack, PushFront, Poll, Hand, Clone, Wake, WakeByRef, Drop, MayEnd, Len, Capacity}
 use Rattle.recordings.specs.declared.call.Task.{Task}
@@ -8,14 +8,19 @@ use Rattle.recordings.specs.declared.make.Key.{Key}
 use Rattle.recordings.specs.declared.make.Key.TheVariants.{Name, First, Slots, Wakes, Parking}
 use Rattle.recordings.specs.declared.make.Kind.{Kind}
 use Rattle.recordings.specs.declared.make.Kind.TheVariants.{Bounded, Ordered, Growing, GrowingOrdered, Merge, GrowingMerge}
-use Rattle.recordings.specs.declared.reason.Reason.{Reason}
-use Rattle.std.specs.Result.{OkIff}
-use Rattle.std.specs.Str.Parse.{IsNumeral, digits_value}
+use Rattle.std.specs.Str.Parse.{IsNumeral, digits_value, without_leading_plus}
 use Rattle.tasks.specs.declared.either.Either.TheVariants.{Left, Right}
 
 -- A word is read exactly if it is a decimal numeral, without a sign, of so many bits.
-abbrev pub Decimal : ℕ → List ℕ → Result ℕ Reason → Type 0
-Decimal bits word r = OkIff r (IsNumeral 10 word × (digits_value 10 word < 2 ^ bits)) (digits_value 10 word)
+abbrev pub Decimal : {N E : Type 0} → ℕ → (N → ℕ) → List ℕ → Result N E → Type 0
+Decimal bits value word r =
+    MatchResult r
+    (λ n. (IsNumeral 10 word × (digits_value 10 word < 2 ^ bits)) × (value n ≡ digits_value 10 word))
+    (λ _. ¬ (IsNumeral 10 word × (digits_value 10 word < 2 ^ bits)))
+
+-- What `parse` does at a type of so many bits: it passes over a plus.
+abbrev pub Parses : {N E : Type 0} → (List ℕ → Result N E → Type 0) → ℕ → (N → ℕ) → Type 0
+Parses gives bits value = (word : List ℕ) (r : _) → gives word r → Decimal bits value (without_leading_plus word) r
 
 abbrev pub flag_word : Bool → List ℕ
 flag_word b = cond b (codes "1") (codes "0")

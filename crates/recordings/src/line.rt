@@ -26,7 +26,7 @@ fn countdown(words: &mut SplitWhitespace<'_>) -> Result<Task, Reason>
     ensures { IfOk result (λ t. task_name t ≡ codes "countdown") }
 {
     let ticket = words::ticket(words)?;
-    let count = words::small(words)?;
+    let count = words::next_number(words)?;
     let wakes_itself = words::flag(words::word(words)?)?;
     Ok(Task::Future(Either::Left(Countdown {
         ticket,
@@ -39,15 +39,15 @@ fn letter(words: &mut SplitWhitespace<'_>) -> Result<Task, Reason>
     ensures { IfOk result (λ t. task_name t ≡ codes "letter") }
 {
     let ticket = words::ticket(words)?;
-    let place = words::large(words)?;
+    let place = words::next_number(words)?;
     Ok(Task::Future(Either::Right(Letter { ticket, place })))
 }
 
 fn ticker(words: &mut SplitWhitespace<'_>) -> Result<Task, Reason>
     ensures { IfOk result (λ t. task_name t ≡ codes "ticker") }
 {
-    let owner = words::small(words)?;
-    let items = words::small(words)?;
+    let owner = words::next_number(words)?;
+    let items = words::next_number(words)?;
     Ok(Task::Stream(Either::Left(Ticker {
         owner,
         next: 0,
@@ -59,7 +59,7 @@ fn mailbag(words: &mut SplitWhitespace<'_>) -> Result<Task, Reason>
     ensures { IfOk result (λ t. task_name t ≡ codes "mailbag") }
 {
     let (owner, next) = words::ticket(words)?;
-    let place = words::large(words)?;
+    let place = words::next_number(words)?;
     Ok(Task::Stream(Either::Right(Mailbag { owner, next, place })))
 }
 
@@ -124,7 +124,7 @@ fn other_call(first: &str, words: &mut SplitWhitespace<'_>) -> Result<Call, Reas
     match first {
         "push" | "push-back" | "push-front" => push_call(first, read_task(words)?),
         "clone" | "wake" | "wake-ref" | "drop" => token_call(first, words::token(words)?),
-        "hand" => Ok(Call::Hand(words::address(words)?)),
+        "hand" => Ok(Call::Hand(words::next_number(words)?)),
         _ => bare_call(first),
     }
 }

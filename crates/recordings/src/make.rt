@@ -129,11 +129,11 @@ fn put_key(keys: &mut Keys, key: Key, text: &str) -> Result<(), Reason>
     ensures { OnOk result (KeyPut key text.now keys.old keys.new) }
 {
     match key {
-        Key::Name => put(&mut keys.name, words::small_number(text)?),
-        Key::First => put(&mut keys.first, words::number(text)? as usize),
-        Key::Slots => put(&mut keys.slots, words::number(text)? as usize),
-        Key::Wakes => put(&mut keys.wakes, words::number(text)? as usize),
-        Key::Parking => put(&mut keys.parking, words::number(text)? as usize),
+        Key::Name => put(&mut keys.name, words::number(text)?),
+        Key::First => put(&mut keys.first, words::number(text)?),
+        Key::Slots => put(&mut keys.slots, words::number(text)?),
+        Key::Wakes => put(&mut keys.wakes, words::number(text)?),
+        Key::Parking => put(&mut keys.parking, words::number(text)?),
     }
 }
 

@@ -1,10 +1,45 @@
 // The words of a call, one after the other.
-ghost use Rattle.std.specs.Prelude.{◌≡◌, IfOk};
-ghost use Rattle.recordings.specs.Words.{Decimal, flag_word};
+ghost use Rattle.std.proofs.Common.{rules};
+ghost use Rattle.std.specs.Prelude.{◌≡◌, ℕ, List, IfOk, Result};
+ghost use Rattle.recordings.specs.Words.{Decimal, Parses, flag_word};
 
 use crate::reason::Reason;
-use std::str::SplitWhitespace;
+use std::num::ParseIntError;
+use std::str::{FromStr, SplitWhitespace};
 use wakes::waker::RawWaker;
+
+// An unsigned number of so many bits.
+pub trait Unsigned: FromStr<Err = ParseIntError> {
+    ghost bits: { ℕ };
+
+    ghost value: { Self → ℕ };
+
+    ghost parses: { Parses Self.from_str_gives bits value };
+}
+
+impl Unsigned for u32 {
+    ghost bits = { 32 };
+
+    ghost value = { λ n. n };
+
+    ghost parses = { Prim.search rules };
+}
+
+impl Unsigned for u64 {
+    ghost bits = { 64 };
+
+    ghost value = { λ n. n };
+
+    ghost parses = { Prim.search rules };
+}
+
+impl Unsigned for usize {
+    ghost bits = { 64 };
+
+    ghost value = { λ n. n };
+
+    ghost parses = { Prim.search rules };
+}
 
 // The next word of the call.
 pub fn word<'a>(words: &mut SplitWhitespace<'a>) -> Result<&'a str, Reason> {
@@ -25,19 +60,13 @@ pub fn arrow(words: &mut SplitWhitespace<'_>) -> Result<(), Reason> {
 }
 
 // A decimal number, without a sign.
-pub fn number(word: &str) -> Result<u64, Reason>
-    ensures { Decimal 64 word.now result }
+pub fn number<N: Unsigned>(word: &str) -> Result<N, Reason>
+    ensures { Decimal N.bits N.value word.now result }
 {
     if word.starts_with('+') {
         return Err(Reason::BadNumber);
     }
     Ok(word.parse()?)
-}
-
-pub fn small_number(word: &str) -> Result<u32, Reason>
-    ensures { Decimal 32 word.now result }
-{
-    Ok(u32::try_from(number(word)?)?)
 }
 
 // `parse` reads a bool from the words `true` and `false`.
@@ -51,26 +80,18 @@ pub fn flag(word: &str) -> Result<bool, Reason>
     }
 }
 
-pub fn large(words: &mut SplitWhitespace<'_>) -> Result<u64, Reason> {
+pub fn next_number<N: Unsigned>(words: &mut SplitWhitespace<'_>) -> Result<N, Reason> {
     number(word(words)?)
 }
 
-pub fn small(words: &mut SplitWhitespace<'_>) -> Result<u32, Reason> {
-    small_number(word(words)?)
-}
-
-pub fn address(words: &mut SplitWhitespace<'_>) -> Result<usize, Reason> {
-    Ok(large(words)? as usize)
-}
-
 pub fn ticket(words: &mut SplitWhitespace<'_>) -> Result<(u32, u32), Reason> {
-    Ok((small(words)?, small(words)?))
+    Ok((next_number(words)?, next_number(words)?))
 }
 
 // A token is told by its name and its address.
 pub fn token(words: &mut SplitWhitespace<'_>) -> Result<RawWaker, Reason> {
-    let name = small(words)?;
-    let address = address(words)?;
+    let name = next_number(words)?;
+    let address = next_number(words)?;
     Ok(RawWaker { name, address })
 }
 
