@@ -47,7 +47,9 @@ impl Call {
         ensures { result ≡ input_of self }
     {
         match self {
-            Call::Push(task) | Call::PushBack(task) | Call::PushFront(task) => Some(Input::Task(task)),
+            Call::Push(task) | Call::PushBack(task) | Call::PushFront(task) => {
+                Some(Input::Task(task))
+            }
             Call::Hand(address) => Some(Input::Address(address)),
             Call::Wake(token) | Call::Drop(token) => Some(Input::Token(token)),
             Call::Poll

@@ -22,56 +22,30 @@ pub enum Line {
     Call(Result<Call, Reason>),
 }
 
-fn countdown(words: &mut SplitWhitespace<'_>) -> Result<Task, Reason>
-    ensures { IfOk result (λ t. task_name t ≡ codes "countdown") }
-{
-    let ticket = words::ticket(words)?;
-    let count = words::next_number(words)?;
-    let wakes_itself = words::flag(words::word(words)?)?;
-    Ok(Task::Future(Either::Left(Countdown {
-        ticket,
-        count,
-        wakes_itself,
-    })))
-}
-
-fn letter(words: &mut SplitWhitespace<'_>) -> Result<Task, Reason>
-    ensures { IfOk result (λ t. task_name t ≡ codes "letter") }
-{
-    let ticket = words::ticket(words)?;
-    let place = words::next_number(words)?;
-    Ok(Task::Future(Either::Right(Letter { ticket, place })))
-}
-
-fn ticker(words: &mut SplitWhitespace<'_>) -> Result<Task, Reason>
-    ensures { IfOk result (λ t. task_name t ≡ codes "ticker") }
-{
-    let owner = words::next_number(words)?;
-    let items = words::next_number(words)?;
-    Ok(Task::Stream(Either::Left(Ticker {
-        owner,
-        next: 0,
-        items,
-    })))
-}
-
-fn mailbag(words: &mut SplitWhitespace<'_>) -> Result<Task, Reason>
-    ensures { IfOk result (λ t. task_name t ≡ codes "mailbag") }
-{
-    let (owner, next) = words::ticket(words)?;
-    let place = words::next_number(words)?;
-    Ok(Task::Stream(Either::Right(Mailbag { owner, next, place })))
-}
-
 // The task of that name.
 fn named_task(name: &str, words: &mut SplitWhitespace<'_>) -> Result<Task, Reason>
     ensures { IfOk result (λ t. name.now ≡ task_name t) }
 {
     match name {
-        "countdown" => countdown(words),
-        "letter" => letter(words),
-        "ticker" => ticker(words),
-        "mailbag" => mailbag(words),
+        "countdown" => Ok(Task::Future(Either::Left(Countdown {
+            ticket: words::ticket(words)?,
+            count: words::next_number(words)?,
+            wakes_itself: words::flag(words::word(words)?)?,
+        }))),
+        "letter" => Ok(Task::Future(Either::Right(Letter {
+            ticket: words::ticket(words)?,
+            place: words::next_number(words)?,
+        }))),
+        "ticker" => Ok(Task::Stream(Either::Left(Ticker {
+            owner: words::next_number(words)?,
+            next: 0,
+            items: words::next_number(words)?,
+        }))),
+        "mailbag" => Ok(Task::Stream(Either::Right(Mailbag {
+            owner: words::next_number(words)?,
+            next: words::next_number(words)?,
+            place: words::next_number(words)?,
+        }))),
         _ => Err(Reason::UnknownTask),
     }
 }
@@ -80,52 +54,23 @@ fn read_task(words: &mut SplitWhitespace<'_>) -> Result<Task, Reason> {
     named_task(words::word(words)?, words)
 }
 
-// A call that brings a task.
-fn push_call(first: &str, task: Task) -> Result<Call, Reason>
-    ensures { IfOk result (λ c. first.now ≡ call_name c) }
-{
-    match first {
-        "push" => Ok(Call::Push(task)),
-        "push-back" => Ok(Call::PushBack(task)),
-        "push-front" => Ok(Call::PushFront(task)),
-        _ => Err(Reason::UnknownCall),
-    }
-}
-
-// A call that brings a token.
-fn token_call(first: &str, token: RawWaker) -> Result<Call, Reason>
-    ensures { IfOk result (λ c. first.now ≡ call_name c) }
-{
-    match first {
-        "clone" => Ok(Call::Clone(token)),
-        "wake" => Ok(Call::Wake(token)),
-        "wake-ref" => Ok(Call::WakeByRef(token)),
-        "drop" => Ok(Call::Drop(token)),
-        _ => Err(Reason::UnknownCall),
-    }
-}
-
-// A call that brings nothing.
-fn bare_call(first: &str) -> Result<Call, Reason>
-    ensures { IfOk result (λ c. first.now ≡ call_name c) }
-{
-    match first {
-        "len" => Ok(Call::Len),
-        "capacity" => Ok(Call::Capacity),
-        "may-end" => Ok(Call::MayEnd),
-        _ => Err(Reason::UnknownCall),
-    }
-}
-
 // The call behind its first word, but a poll.
 fn other_call(first: &str, words: &mut SplitWhitespace<'_>) -> Result<Call, Reason>
     ensures { IfOk result (λ c. first.now ≡ call_name c) }
 {
     match first {
-        "push" | "push-back" | "push-front" => push_call(first, read_task(words)?),
-        "clone" | "wake" | "wake-ref" | "drop" => token_call(first, words::token(words)?),
+        "push" => Ok(Call::Push(read_task(words)?)),
+        "push-back" => Ok(Call::PushBack(read_task(words)?)),
+        "push-front" => Ok(Call::PushFront(read_task(words)?)),
         "hand" => Ok(Call::Hand(words::next_number(words)?)),
-        _ => bare_call(first),
+        "clone" => Ok(Call::Clone(words::token(words)?)),
+        "wake" => Ok(Call::Wake(words::token(words)?)),
+        "wake-ref" => Ok(Call::WakeByRef(words::token(words)?)),
+        "drop" => Ok(Call::Drop(words::token(words)?)),
+        "may-end" => Ok(Call::MayEnd),
+        "len" => Ok(Call::Len),
+        "capacity" => Ok(Call::Capacity),
+        _ => Err(Reason::UnknownCall),
     }
 }
 

@@ -2,7 +2,7 @@ ghost use Rattle.std.specs.Prelude.{◌≡◌};
 ghost use Rattle.recordings.specs.declared.reason.Reason.TheVariants.{BadNumber, NoMemory};
 
 use std::alloc::AllocFailed;
-use std::num::{ParseIntError, TryFromIntError};
+use std::num::ParseIntError;
 use thiserror::Error;
 
 // Why a line is no call that can be carried out.
@@ -40,14 +40,6 @@ impl From<ParseIntError> for Reason {
     ghost from_gives = { λ _ r. r ≡ BadNumber };
 
     fn from(_error: ParseIntError) -> Reason {
-        Reason::BadNumber
-    }
-}
-
-impl From<TryFromIntError> for Reason {
-    ghost from_gives = { λ _ r. r ≡ BadNumber };
-
-    fn from(_error: TryFromIntError) -> Reason {
         Reason::BadNumber
     }
 }

@@ -14,6 +14,7 @@ pub trait Unsigned: FromStr<Err = ParseIntError> {
 
     ghost value: { Self → ℕ };
 
+    // which texts `parse` reads, and as what
     ghost parses: { Parses Self.from_str_gives bits value };
 }
 
@@ -69,7 +70,7 @@ pub fn number<N: Unsigned>(word: &str) -> Result<N, Reason>
     Ok(word.parse()?)
 }
 
-// `parse` reads a bool from the words `true` and `false`.
+// A flag is 0 or 1; `parse` would read the words `true` and `false`.
 pub fn flag(word: &str) -> Result<bool, Reason>
     ensures { IfOk result (λ b. word.now ≡ flag_word b) }
 {
@@ -90,9 +91,10 @@ pub fn ticket(words: &mut SplitWhitespace<'_>) -> Result<(u32, u32), Reason> {
 
 // A token is told by its name and its address.
 pub fn token(words: &mut SplitWhitespace<'_>) -> Result<RawWaker, Reason> {
-    let name = next_number(words)?;
-    let address = next_number(words)?;
-    Ok(RawWaker { name, address })
+    Ok(RawWaker {
+        name: next_number(words)?,
+        address: next_number(words)?,
+    })
 }
 
 // The words of the post, up to the end of the call.
