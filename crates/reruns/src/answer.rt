@@ -150,11 +150,13 @@ impl fmt::Display for Answer {
             Answer::Token(RawWaker { name, address }) => write!(f, "token {name} {address}"),
             Answer::Notice(notice) => write!(f, "notice {notice}"),
             Answer::Dropped => f.write_str("dropped"),
-            Answer::Polled(Polled {
-                poll,
-                notices,
-                turns,
-            }) => match poll {
+            Answer::Polled(
+                Polled {
+                    poll,
+                    notices,
+                    turns,
+                },
+            ) => match poll {
                 Poll::Pending => write!(f, "pending {notices} {turns}"),
                 Poll::Ready(None) => write!(f, "none {notices} {turns}"),
                 Poll::Ready(Some(yielded)) => write!(f, "ready {yielded} {notices} {turns}"),

@@ -2,7 +2,7 @@
 ghost use Rattle.std.specs.Prelude.{◌≡◌};
 ghost use Rattle.reruns.specs.Answers.{token_of};
 ghost use Rattle.reruns.specs.Bounded.{answer_of, after, bounded_answer, bounded_after};
-ghost use Rattle.runs.specs.Calls.{push as PushCall, hand as HandCall, clone as CloneCall, wake as WakeCall, wake_by_ref as WakeByRefCall, drop as DropCall, may_end as MayEndCall};
+ghost use Rattle.runs.specs.Calls.{clone as CloneCall, wake_by_ref as WakeByRefCall};
 ghost use Rattle.sets.specs.BoundedSet.{set_of};
 
 use crate::answer::Answer;
@@ -18,20 +18,6 @@ use wakes::waker::{RawWaker, Waker};
 // A bounded unordered set that holds countdowns and letters side by side.
 pub type BoundedSet<'a> = FuturesUnorderedBounded<'a, Either<Countdown, Letter>>;
 
-fn push(set: &mut BoundedSet<'_>, task: Either<Countdown, Letter>) -> Answer
-    ensures answer { result ≡ answer_of (set_of set.old) (PushCall task) }
-    ensures after { set_of set.new ≡ after (set_of set.old) (PushCall task) }
-{
-    set.push(task).map_or_else(Answer::from, Answer::At)
-}
-
-fn hand(set: &mut BoundedSet<'_>, address: usize) -> Answer
-    ensures answer { result ≡ answer_of (set_of set.old) (HandCall address) }
-    ensures after { set_of set.new ≡ after (set_of set.old) (HandCall address) }
-{
-    set.hand(address).map_or_else(Answer::from, Answer::from)
-}
-
 fn clone(set: &mut BoundedSet<'_>, raw: RawWaker) -> Answer
     ensures answer { result ≡ answer_of (set_of set.old) (CloneCall (token_of raw)) }
     ensures after { set_of set.new ≡ after (set_of set.old) (CloneCall (token_of raw)) }
@@ -40,13 +26,6 @@ fn clone(set: &mut BoundedSet<'_>, raw: RawWaker) -> Answer
     let answer = set.clone(&token);
     let _ = token.into_raw();
     answer.map_or_else(Answer::from, Answer::from)
-}
-
-fn wake(set: &mut BoundedSet<'_>, raw: RawWaker) -> Answer
-    ensures answer { result ≡ answer_of (set_of set.old) (WakeCall (token_of raw)) }
-    ensures after { set_of set.new ≡ after (set_of set.old) (WakeCall (token_of raw)) }
-{
-    set.wake(Waker::from_raw(raw)).map_or_else(Answer::from, Answer::Notice)
 }
 
 fn wake_by_ref(set: &mut BoundedSet<'_>, raw: RawWaker) -> Answer
@@ -59,33 +38,32 @@ fn wake_by_ref(set: &mut BoundedSet<'_>, raw: RawWaker) -> Answer
     answer.map_or_else(Answer::from, Answer::Notice)
 }
 
-fn spend(set: &mut BoundedSet<'_>, raw: RawWaker) -> Answer
-    ensures answer { result ≡ answer_of (set_of set.old) (DropCall (token_of raw)) }
-    ensures after { set_of set.new ≡ after (set_of set.old) (DropCall (token_of raw)) }
-{
-    set.drop(Waker::from_raw(raw)).map_or_else(Answer::from, |()| Answer::Dropped)
-}
-
-fn may_end(set: &BoundedSet<'_>) -> Answer
-    ensures { result ≡ answer_of (set_of set.now) MayEndCall }
-{
-    set.may_end().map_or_else(Answer::from, |()| Answer::Yes)
-}
-
 // The call, where a bounded unordered set has it.
 fn call_on(set: &mut BoundedSet<'_>, call: Call, post: &[u64]) -> Result<Answer, Reason>
     ensures answer { result ≡ bounded_answer (set_of set.old) call post.now }
     ensures after { set_of set.new ≡ bounded_after (set_of set.old) call post.now }
 {
     match call {
-        Call::Push(Task::Future(task)) => Ok(push(set, task)),
+        Call::Push(Task::Future(task)) => {
+            Ok(set.push(task).map_or_else(Answer::from, Answer::At))
+        },
         Call::Poll => Ok(Answer::from(set.poll(post))),
-        Call::Hand(address) => Ok(hand(set, address)),
+        Call::Hand(address) => { Ok(set.hand(address).map_or_else(Answer::from, Answer::from)) },
         Call::Clone(token) => Ok(clone(set, token)),
-        Call::Wake(token) => Ok(wake(set, token)),
+        Call::Wake(token) => {
+            Ok(
+                set.wake(Waker::from_raw(token))
+                    .map_or_else(Answer::from, Answer::Notice),
+            )
+        },
         Call::WakeByRef(token) => Ok(wake_by_ref(set, token)),
-        Call::Drop(token) => Ok(spend(set, token)),
-        Call::MayEnd => Ok(may_end(set)),
+        Call::Drop(token) => {
+            Ok(
+                set.drop(Waker::from_raw(token))
+                    .map_or_else(Answer::from, |()| Answer::Dropped),
+            )
+        },
+        Call::MayEnd => Ok(set.may_end().map_or_else(Answer::from, |()| Answer::Yes)),
         Call::Len => Ok(Answer::Number(set.len())),
         Call::Capacity => Ok(Answer::Number(set.capacity())),
         Call::Push(Task::Stream(_)) | Call::PushBack(_) | Call::PushFront(_) => {
