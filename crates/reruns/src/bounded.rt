@@ -43,33 +43,26 @@ fn call_on(set: &mut BoundedSet<'_>, call: Call, post: &[u64]) -> Result<Answer,
     ensures answer { result ≡ bounded_answer (set_of set.old) call post.now }
     ensures after { set_of set.new ≡ bounded_after (set_of set.old) call post.now }
 {
-    match call {
-        Call::Push(Task::Future(task)) => {
-            Ok(set.push(task).map_or_else(Answer::from, Answer::At))
-        },
-        Call::Poll => Ok(Answer::from(set.poll(post))),
-        Call::Hand(address) => { Ok(set.hand(address).map_or_else(Answer::from, Answer::from)) },
-        Call::Clone(token) => Ok(clone(set, token)),
-        Call::Wake(token) => {
-            Ok(
-                set.wake(Waker::from_raw(token))
-                    .map_or_else(Answer::from, Answer::Notice),
-            )
-        },
-        Call::WakeByRef(token) => Ok(wake_by_ref(set, token)),
-        Call::Drop(token) => {
-            Ok(
-                set.drop(Waker::from_raw(token))
-                    .map_or_else(Answer::from, |()| Answer::Dropped),
-            )
-        },
-        Call::MayEnd => Ok(set.may_end().map_or_else(Answer::from, |()| Answer::Yes)),
-        Call::Len => Ok(Answer::Number(set.len())),
-        Call::Capacity => Ok(Answer::Number(set.capacity())),
+    let answer = match call {
+        Call::Push(Task::Future(task)) => set.push(task).map_or_else(Answer::from, Answer::At),
+        Call::Poll => Answer::from(set.poll(post)),
+        Call::Hand(address) => set.hand(address).map_or_else(Answer::from, Answer::from),
+        Call::Clone(raw) => clone(set, raw),
+        Call::Wake(raw) => set
+            .wake(Waker::from_raw(raw))
+            .map_or_else(Answer::from, Answer::Notice),
+        Call::WakeByRef(raw) => wake_by_ref(set, raw),
+        Call::Drop(raw) => set
+            .drop(Waker::from_raw(raw))
+            .map_or_else(Answer::from, |()| Answer::Dropped),
+        Call::MayEnd => set.may_end().map_or_else(Answer::from, |()| Answer::Yes),
+        Call::Len => Answer::Number(set.len()),
+        Call::Capacity => Answer::Number(set.capacity()),
         Call::Push(Task::Stream(_)) | Call::PushBack(_) | Call::PushFront(_) => {
-            Err(Reason::OtherKind)
+            return Err(Reason::OtherKind);
         }
-    }
+    };
+    Ok(answer)
 }
 
 impl Recorded for FuturesUnorderedBounded<'_, Either<Countdown, Letter>> {
