@@ -38,39 +38,31 @@ fn wake_by_ref(set: &mut BoundedSet<'_>, raw: RawWaker) -> Answer
     answer.map_or_else(Answer::from, Answer::Notice)
 }
 
-// The call, where a bounded unordered set has it.
-fn call_on(set: &mut BoundedSet<'_>, call: Call, post: &[u64]) -> Result<Answer, Reason>
-    ensures answer { result ≡ bounded_answer (set_of set.old) call post.now }
-    ensures after { set_of set.new ≡ bounded_after (set_of set.old) call post.now }
-{
-    let answer = match call {
-        Call::Push(Task::Future(task)) => set.push(task).map_or_else(Answer::from, Answer::At),
-        Call::Poll => Answer::from(set.poll(post)),
-        Call::Hand(address) => set.hand(address).map_or_else(Answer::from, Answer::from),
-        Call::Clone(raw) => clone(set, raw),
-        Call::Wake(raw) => set
-            .wake(Waker::from_raw(raw))
-            .map_or_else(Answer::from, Answer::Notice),
-        Call::WakeByRef(raw) => wake_by_ref(set, raw),
-        Call::Drop(raw) => set
-            .drop(Waker::from_raw(raw))
-            .map_or_else(Answer::from, |()| Answer::Dropped),
-        Call::MayEnd => set.may_end().map_or_else(Answer::from, |()| Answer::Yes),
-        Call::Len => Answer::Number(set.len()),
-        Call::Capacity => Answer::Number(set.capacity()),
-        Call::Push(Task::Stream(_)) | Call::PushBack(_) | Call::PushFront(_) => {
-            return Err(Reason::OtherKind);
-        }
-    };
-    Ok(answer)
-}
-
 impl Recorded for FuturesUnorderedBounded<'_, Either<Countdown, Letter>> {
     ghost answers = { λ s c post. bounded_answer (set_of s) c post };
 
     ghost leaves = { λ s c post t. set_of t ≡ bounded_after (set_of s) c post };
 
     fn carry_out(&mut self, call: Call, post: &[u64]) -> Result<Answer, Reason> {
-        call_on(self, call, post)
+        let answer = match call {
+            Call::Push(Task::Future(task)) => self.push(task).map_or_else(Answer::from, Answer::At),
+            Call::Poll => Answer::from(self.poll(post)),
+            Call::Hand(address) => self.hand(address).map_or_else(Answer::from, Answer::from),
+            Call::Clone(raw) => clone(self, raw),
+            Call::Wake(raw) => self
+                .wake(Waker::from_raw(raw))
+                .map_or_else(Answer::from, Answer::Notice),
+            Call::WakeByRef(raw) => wake_by_ref(self, raw),
+            Call::Drop(raw) => self
+                .drop(Waker::from_raw(raw))
+                .map_or_else(Answer::from, |()| Answer::Dropped),
+            Call::MayEnd => self.may_end().map_or_else(Answer::from, |()| Answer::Yes),
+            Call::Len => Answer::Number(self.len()),
+            Call::Capacity => Answer::Number(self.capacity()),
+            Call::Push(Task::Stream(_)) | Call::PushBack(_) | Call::PushFront(_) => {
+                return Err(Reason::OtherKind);
+            }
+        };
+        Ok(answer)
     }
 }
