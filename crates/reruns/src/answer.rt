@@ -80,6 +80,7 @@ impl From<Fault> for Answer {
     }
 }
 
+// A refused call hands back what it was given.
 impl From<Refused<Either<Countdown, Letter>>> for Answer {
     ghost from_gives = { λ r a. a ≡ task_back_of Future r };
 
