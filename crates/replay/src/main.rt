@@ -7,6 +7,7 @@ use anyhow::anyhow;
 
 mod input;
 mod play;
+mod report;
 mod tally;
 
 // The program fails if anything differs.
