@@ -7,7 +7,6 @@ use anyhow::anyhow;
 
 mod input;
 mod play;
-mod report;
 mod tally;
 
 // The program fails if anything differs.

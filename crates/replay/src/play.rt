@@ -2,8 +2,7 @@
 ghost use Rattle.std.specs.Prelude.{min, ◌≡◌, IfOk, vec_len};
 
 use crate::input::{Input, Numbered};
-use crate::report::{Difference, Report};
-use crate::tally::Tally;
+use crate::tally::{Difference, Report, Tally};
 use recordings::call::Call;
 use recordings::line;
 use recordings::line::Line;
@@ -33,8 +32,8 @@ const MOST_MEMORY: usize = 65537;
 
 type Task = Either<Countdown, Letter>;
 
-// What a make line says.
-type Made = Result<Make, Reason>;
+// The make line that ends a run, and what it says. The last run has none.
+type Next = Option<(Numbered, Result<Make, Reason>)>;
 
 // A recording that is played: what is left of it, and what was found.
 #[derive(Drop)]
@@ -84,7 +83,7 @@ impl Report<'_> {
         line: &Numbered,
         set: &mut S,
         post: &mut Vec<u64>,
-    ) -> io::Result<Option<Made>> {
+    ) -> io::Result<Option<Result<Make, Reason>>> {
         let mut words = line.text.as_str().split_whitespace();
         let call = match line::read(&mut words, post) {
             None => return Ok(None),
@@ -104,7 +103,7 @@ impl Report<'_> {
 
 impl<B: BufRead + Drop> Player<'_, B> {
     // Carries out the calls on one set, up to the next make line.
-    fn follow<S: Recorded>(&mut self, set: &mut S) -> io::Result<Option<(Numbered, Made)>> {
+    fn follow<S: Recorded>(&mut self, set: &mut S) -> io::Result<Next> {
         let mut post = Vec::new(self.report.rt.alloc());
         for line in self.input.by_ref() {
             let line = line?;
@@ -116,7 +115,7 @@ impl<B: BufRead + Drop> Player<'_, B> {
     }
 
     // Passes over the lines of a run of a kind that is not delivered yet, whatever they say.
-    fn skip(&mut self) -> io::Result<Option<(Numbered, Made)>> {
+    fn skip(&mut self) -> io::Result<Next> {
         let mut post = Vec::new(self.report.rt.alloc());
         for line in self.input.by_ref() {
             let line = line?;
@@ -129,22 +128,23 @@ impl<B: BufRead + Drop> Player<'_, B> {
     }
 
     // Where no set can be made, there is none up to the next make line.
-    fn unmade(&mut self, line: &Numbered, reason: Reason) -> io::Result<Option<(Numbered, Made)>> {
+    fn unmade(&mut self, line: &Numbered, reason: Reason) -> io::Result<Next> {
         self.report.differs(line, Difference::Unreadable(reason))?;
         self.follow(&mut NoSet)
     }
 
     // A run of a bounded unordered set.
-    fn bounded(&mut self, line: &Numbered, make: Make) -> io::Result<Option<(Numbered, Made)>> {
+    fn bounded(&mut self, line: &Numbered, make: Make) -> io::Result<Next> {
         let heap = self.report.rt.alloc();
-        let Ok(mut slots) = memory(heap, Slot::NextFree(0), make.slots) else {
-            return self.unmade(line, Reason::NoMemory);
-        };
-        let fresh = WakeRecord {
+        let slot = Slot::NextFree(0);
+        let record = WakeRecord {
             queued: false,
             next: 0,
         };
-        let Ok(mut records) = memory(heap, fresh, make.wakes) else {
+        let (Ok(mut slots), Ok(mut records)) = (
+            memory(heap, slot, make.slots),
+            memory(heap, record, make.wakes),
+        ) else {
             return self.unmade(line, Reason::NoMemory);
         };
         self.report.tally.count_run();
@@ -162,7 +162,7 @@ impl<B: BufRead + Drop> Player<'_, B> {
     }
 
     // The run that a make line begins. Each kind of set and merge is a case of its own.
-    fn run(&mut self, line: &Numbered, make: Made) -> io::Result<Option<(Numbered, Made)>> {
+    fn run(&mut self, line: &Numbered, make: Result<Make, Reason>) -> io::Result<Next> {
         match make {
             Ok(make) => match make.kind {
                 Kind::Bounded => self.bounded(line, make),
@@ -194,7 +194,7 @@ fn play<B: BufRead + Drop>(rt: &HostRuntime, lines: Lines<B>) -> io::Result<u64>
         next = player.run(&line, make)?;
     }
     player.report.show()?;
-    Ok(player.report.tally.differences)
+    Ok(player.report.tally.differences())
 }
 
 // Plays the file that the first argument names, or the standard input.
