@@ -128,7 +128,7 @@ impl<B: BufRead + Drop> Player<'_, B> {
     }
 
     // Where no set can be made, there is none up to the next make line.
-    fn unmade(&mut self, line: &Numbered, reason: Reason) -> io::Result<Next> {
+    fn without_set(&mut self, line: &Numbered, reason: Reason) -> io::Result<Next> {
         self.report.differs(line, Difference::Unreadable(reason))?;
         self.follow(&mut NoSet)
     }
@@ -145,7 +145,7 @@ impl<B: BufRead + Drop> Player<'_, B> {
             memory(heap, slot, make.slots),
             memory(heap, record, make.wakes),
         ) else {
-            return self.unmade(line, Reason::NoMemory);
+            return self.without_set(line, Reason::NoMemory);
         };
         self.report.tally.count_run();
         let mut set = FuturesUnorderedBounded::new(
@@ -171,7 +171,7 @@ impl<B: BufRead + Drop> Player<'_, B> {
                     self.skip()
                 }
             },
-            Err(reason) => self.unmade(line, reason),
+            Err(reason) => self.without_set(line, reason),
         }
     }
 }
