@@ -16,13 +16,13 @@ pub enum Task {
     Stream(Either<Ticker, Mailbag>),
 }
 
-// A call as a recording has it, for every kind of set and merge. The post of a poll stands beside it.
+// A call as a recording has it, for every kind of set and merge.
 #[derive(Clone, Copy)]
-pub enum Call {
+pub enum Call<'p> {
     Push(Task),
     PushBack(Task),
     PushFront(Task),
-    Poll,
+    Poll(&'p [u64]),
     Hand(usize),
     Clone(RawWaker),
     Wake(RawWaker),
@@ -41,10 +41,10 @@ pub enum Input {
     Token(RawWaker),
 }
 
-impl Call {
+impl Call<'_> {
     // A token that is only lent stays with the caller.
     pub fn input(self) -> Option<Input>
-        ensures { result ≡ input_of self }
+        ensures { result ≡ input_of self.entry }
     {
         match self {
             Call::Push(task) | Call::PushBack(task) | Call::PushFront(task) => {
@@ -52,7 +52,7 @@ impl Call {
             }
             Call::Hand(address) => Some(Input::Address(address)),
             Call::Wake(token) | Call::Drop(token) => Some(Input::Token(token)),
-            Call::Poll
+            Call::Poll(_)
             | Call::Clone(_)
             | Call::WakeByRef(_)
             | Call::MayEnd

@@ -61,7 +61,7 @@ impl Report<'_> {
     fn compare(
         &mut self,
         line: &Numbered,
-        call: Call,
+        call: Call<'_>,
         expected: SplitWhitespace<'_>,
         answer: Answer,
     ) -> io::Result<()> {
@@ -90,7 +90,7 @@ impl Report<'_> {
             Some(Line::Make(make)) => return Ok(Some(make)),
             Some(Line::Call(call)) => call,
         };
-        match call.and_then(|call| Ok((call, set.carry_out(call, post.as_slice())?))) {
+        match call.and_then(|call| Ok((call, set.carry_out(call)?))) {
             Ok((call, answer)) => {
                 self.tally.count_call();
                 self.compare(line, call, words, answer)?;
