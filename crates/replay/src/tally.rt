@@ -11,7 +11,7 @@ use std::io;
 // Only the first differences are printed.
 const MOST_PRINTED: u64 = 20;
 
-// All kinds, in order.
+// All kinds, in the order in which they are shown.
 const KINDS: [Kind; 6] = [
     Kind::Bounded,
     Kind::Ordered,
@@ -118,11 +118,11 @@ impl Report<'_> {
     // The runs of the kinds that are not delivered yet, where there are any.
     fn show_skipped(&self) -> io::Result<()> {
         let rt = self.rt;
-        let skipped = self.tally.skipped;
+        let counts = self.tally.skipped;
         let mut skipped = KINDS
             .iter()
-            .zip(skipped.iter())
-            .filter(|(_, runs)| **runs > 0);
+            .map(|kind| (*kind, counts[*kind as usize]))
+            .filter(|(_, runs)| *runs > 0);
         let Some((kind, runs)) = skipped.next() else {
             return Ok(());
         };
