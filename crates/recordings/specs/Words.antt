@@ -1,5 +1,5 @@
 -- What the words of a recording stand for.
-use Rattle.std.specs.Prelude.{◌≡◌, ℕ, ◌^◌, ◌<◌, Bool, cond, List, codes, Result, MatchResult}
+use Rattle.std.specs.Prelude.{◌≡◌, ◌≢◌, ℕ, ◌^◌, ◌<◌, Bool, cond, List, codes, Result, MatchResult}
 use Rattle.recordings.specs.declared.call.Call.{Call}
 use Rattle.recordings.specs.declared.call.Call.TheVariants.{Push, PushBack, PushFront, Poll, Hand, Clone, Wake, WakeByRef, Drop, MayEnd, Len, Capacity}
 use Rattle.recordings.specs.declared.call.Task.{Task}
@@ -8,6 +8,7 @@ use Rattle.recordings.specs.declared.make.Key.{Key}
 use Rattle.recordings.specs.declared.make.Key.TheVariants.{Name, First, Slots, Wakes, Parking}
 use Rattle.recordings.specs.declared.make.Kind.{Kind}
 use Rattle.recordings.specs.declared.make.Kind.TheVariants.{Bounded, Ordered, Growing, GrowingOrdered, Merge, GrowingMerge}
+use Rattle.recordings.specs.declared.reason.Reason.{Reason}
 use Rattle.std.specs.Str.Parse.{IsNumeral, digits_value, without_leading_plus}
 use Rattle.tasks.specs.declared.either.Either.TheVariants.{Left, Right}
 
@@ -21,6 +22,10 @@ Decimal bits value word r =
 -- What `parse` does at a type of so many bits: it passes over a plus.
 abbrev pub Parses : {N E : Type 0} → (List ℕ → Result N E → Type 0) → ℕ → (N → ℕ) → Type 0
 Parses gives bits value = (word : List ℕ) (r : _) → gives word r → Decimal bits value (without_leading_plus word) r
+
+-- A word is read exactly if it is one of these words.
+abbrev pub Named : {A : Type 0} → (A → List ℕ) → List ℕ → Result A Reason → Type 0
+Named word_of word r = MatchResult r (λ a. word ≡ word_of a) (λ _. (a : _) → word ≢ word_of a)
 
 abbrev pub flag_word : Bool → List ℕ
 flag_word b = cond b (codes "1") (codes "0")

@@ -1,7 +1,7 @@
 // The lines that begin a run.
 ghost use Rattle.std.specs.Prelude.{◌≡◌, is_some, Some, None, IfOk, MatchResult, OnOk};
 ghost use Rattle.recordings.specs.Makes.{has_first, has_parking, KeyPut, MadeOf};
-ghost use Rattle.recordings.specs.Words.{kind_name, key_name};
+ghost use Rattle.recordings.specs.Words.{Named, kind_name, key_name};
 
 use crate::reason::Reason;
 use crate::words;
@@ -66,7 +66,7 @@ impl Kind {
 impl FromStr for Kind {
     type Err = Reason;
 
-    ghost from_str_gives = { λ name r. IfOk r (λ k. name ≡ kind_name k) };
+    ghost from_str_gives = { Named kind_name };
 
     fn from_str(name: &str) -> Result<Kind, Reason> {
         match name {
@@ -99,7 +99,7 @@ impl fmt::Display for Kind {
 impl FromStr for Key {
     type Err = Reason;
 
-    ghost from_str_gives = { λ name r. IfOk r (λ k. name ≡ key_name k) };
+    ghost from_str_gives = { Named key_name };
 
     fn from_str(name: &str) -> Result<Key, Reason> {
         match name {

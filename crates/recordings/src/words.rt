@@ -1,7 +1,7 @@
 // The words of a call, one after the other.
 ghost use Rattle.std.proofs.Common.{rules};
 ghost use Rattle.std.specs.Prelude.{◌≡◌, ℕ, List, IfOk, Result};
-ghost use Rattle.recordings.specs.Words.{Decimal, Parses, flag_word};
+ghost use Rattle.recordings.specs.Words.{Decimal, Parses, Named, flag_word};
 
 use crate::reason::Reason;
 use std::num::ParseIntError;
@@ -72,7 +72,7 @@ pub fn number<N: Unsigned>(word: &str) -> Result<N, Reason>
 
 // A flag is 0 or 1; `parse` would read the words `true` and `false`.
 pub fn flag(word: &str) -> Result<bool, Reason>
-    ensures { IfOk result (λ b. word.now ≡ flag_word b) }
+    ensures { Named flag_word word.now result }
 {
     match word {
         "0" => Ok(false),
