@@ -151,17 +151,15 @@ impl fmt::Display for Answer {
             Answer::Token(RawWaker { name, address }) => write!(f, "token {name} {address}"),
             Answer::Notice(notice) => write!(f, "notice {notice}"),
             Answer::Dropped => f.write_str("dropped"),
-            Answer::Polled(
-                Polled {
-                    poll,
-                    notices,
-                    turns,
-                },
-            ) => match poll {
-                Poll::Pending => write!(f, "pending {notices} {turns}"),
-                Poll::Ready(None) => write!(f, "none {notices} {turns}"),
-                Poll::Ready(Some(yielded)) => write!(f, "ready {yielded} {notices} {turns}"),
-            },
+            Answer::Polled(polled) => {
+                let notices = polled.notices;
+                let turns = polled.turns;
+                match polled.poll {
+                    Poll::Pending => write!(f, "pending {notices} {turns}"),
+                    Poll::Ready(None) => write!(f, "none {notices} {turns}"),
+                    Poll::Ready(Some(yielded)) => write!(f, "ready {yielded} {notices} {turns}"),
+                }
+            }
             Answer::Number(number) => write!(f, "{number}"),
             Answer::Yes => f.write_str("yes"),
             Answer::Refused(Refused { fault, input: _ }) => {
