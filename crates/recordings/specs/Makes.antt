@@ -1,5 +1,5 @@
 -- What a make line asks for.
-use Rattle.std.specs.Prelude.{◌≡◌, ℕ, Bool, true, false, cond, List, Some, None, Option}
+use Rattle.std.specs.Prelude.{◌≡◌, ℕ, Bool, true, false, List, Some, None, is_some, Option}
 use Rattle.recordings.specs.declared.make.Key.{Key}
 use Rattle.recordings.specs.declared.make.Key.TheVariants.{Name, First, Slots, Wakes, Parking}
 use Rattle.recordings.specs.declared.make.Keys.{Keys}
@@ -47,7 +47,7 @@ abbrev pub MadeOf : Kind → Keys → Make → Type 0
 MadeOf k ks m =
     (m.kind ≡ k)
     × (ks.name ≡ Some m.name)
-    × (ks.first ≡ cond (has_first k) (Some m.first) None)
+    × (ks.first ≡ m.first) × (is_some m.first ≡ has_first k)
     × (ks.slots ≡ Some m.slots)
     × (ks.wakes ≡ Some m.wakes)
-    × (ks.parking ≡ cond (has_parking k) (Some m.parking) None)
+    × (ks.parking ≡ m.parking) × (is_some m.parking ≡ has_parking k)

@@ -1,5 +1,5 @@
 -- What the words of a recording stand for.
-use Rattle.std.specs.Prelude.{ℕ, ◌^◌, ◌<◌, Bool, cond, List, codes, Result}
+use Rattle.std.specs.Prelude.{◌≡◌, ◌≢◌, ℕ, ◌^◌, ◌<◌, Bool, cond, List, codes, Result, MatchResult}
 use Rattle.recordings.specs.declared.call.Call.{Call}
 use Rattle.recordings.specs.declared.call.Call.TheVariants.{Push, PushBack, PushFront, Poll, Hand, Clone, Wake, WakeByRef, Drop, MayEnd, Len, Capacity}
 use Rattle.recordings.specs.declared.call.Task.{Task}
@@ -9,13 +9,23 @@ use Rattle.recordings.specs.declared.make.Key.TheVariants.{Name, First, Slots, W
 use Rattle.recordings.specs.declared.make.Kind.{Kind}
 use Rattle.recordings.specs.declared.make.Kind.TheVariants.{Bounded, Ordered, Growing, GrowingOrdered, Merge, GrowingMerge}
 use Rattle.recordings.specs.declared.reason.Reason.{Reason}
-use Rattle.std.specs.Result.{OkIff}
-use Rattle.std.specs.Str.Parse.{IsNumeral, digits_value}
+use Rattle.std.specs.Str.Parse.{IsNumeral, digits_value, without_leading_plus}
 use Rattle.tasks.specs.declared.either.Either.TheVariants.{Left, Right}
 
 -- A word is read exactly if it is a decimal numeral, without a sign, of so many bits.
-abbrev pub Decimal : ℕ → List ℕ → Result ℕ Reason → Type 0
-Decimal bits word r = OkIff r (IsNumeral 10 word × (digits_value 10 word < 2 ^ bits)) (digits_value 10 word)
+abbrev pub Decimal : {N E : Type 0} → ℕ → (N → ℕ) → List ℕ → Result N E → Type 0
+Decimal bits value word r =
+    MatchResult r
+    (λ n. (IsNumeral 10 word × (digits_value 10 word < 2 ^ bits)) × (value n ≡ digits_value 10 word))
+    (λ _. ¬ (IsNumeral 10 word × (digits_value 10 word < 2 ^ bits)))
+
+-- What `parse` does at a type of so many bits: it passes over a plus.
+abbrev pub Parses : {N E : Type 0} → (List ℕ → Result N E → Type 0) → ℕ → (N → ℕ) → Type 0
+Parses gives bits value = (word : List ℕ) (r : _) → gives word r → Decimal bits value (without_leading_plus word) r
+
+-- A word is read exactly if it is one of these words.
+abbrev pub Named : {A : Type 0} → (A → List ℕ) → List ℕ → Result A Reason → Type 0
+Named word_of word r = MatchResult r (λ a. word ≡ word_of a) (λ _. (a : _) → word ≢ word_of a)
 
 abbrev pub flag_word : Bool → List ℕ
 flag_word b = cond b (codes "1") (codes "0")
@@ -40,7 +50,7 @@ abbrev pub call_name : Call → List ℕ
 call_name (Push t) = codes "push"
 call_name (PushBack t) = codes "push-back"
 call_name (PushFront t) = codes "push-front"
-call_name Poll = codes "poll"
+call_name (Poll post) = codes "poll"
 call_name (Hand a) = codes "hand"
 call_name (Clone t) = codes "clone"
 call_name (Wake t) = codes "wake"

@@ -16,13 +16,13 @@ pub enum Task {
     Stream(Either<Ticker, Mailbag>),
 }
 
-// A call as a recording has it, for every kind of set and merge. The post of a poll stands beside it.
+// A call as a recording has it, for every kind of set and merge.
 #[derive(Clone, Copy)]
-pub enum Call {
+pub enum Call<'p> {
     Push(Task),
     PushBack(Task),
     PushFront(Task),
-    Poll,
+    Poll(&'p [u64]),
     Hand(usize),
     Clone(RawWaker),
     Wake(RawWaker),
@@ -33,30 +33,31 @@ pub enum Call {
     Capacity,
 }
 
-// What a refused call hands back.
+// What a call gives away, and gets back where it is refused.
 #[derive(Clone, Copy, PartialEq)]
-pub enum Back {
-    Nothing,
+pub enum Input {
     Task(Task),
     Address(usize),
     Token(RawWaker),
 }
 
-impl Call {
-    // What the call gives away, and gets back where it is refused. A token that is only lent stays with the caller.
-    pub fn input(self) -> Back
-        ensures { result ≡ input_of self }
+impl Call<'_> {
+    // A token that is only lent stays with the caller.
+    pub fn input(self) -> Option<Input>
+        ensures { result ≡ input_of self.entry }
     {
         match self {
-            Call::Push(task) | Call::PushBack(task) | Call::PushFront(task) => Back::Task(task),
-            Call::Hand(address) => Back::Address(address),
-            Call::Wake(token) | Call::Drop(token) => Back::Token(token),
-            Call::Poll
+            Call::Push(task) | Call::PushBack(task) | Call::PushFront(task) => {
+                Some(Input::Task(task))
+            }
+            Call::Hand(address) => Some(Input::Address(address)),
+            Call::Wake(token) | Call::Drop(token) => Some(Input::Token(token)),
+            Call::Poll(_)
             | Call::Clone(_)
             | Call::WakeByRef(_)
             | Call::MayEnd
             | Call::Len
-            | Call::Capacity => Back::Nothing,
+            | Call::Capacity => None,
         }
     }
 }

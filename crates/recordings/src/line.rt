@@ -17,52 +17,9 @@ use wakes::waker::RawWaker;
 
 // What a line says, or why it cannot be read.
 #[derive(Clone, Copy)]
-pub enum Line {
-    // it is blank, or a comment
-    Silent,
+pub enum Line<'p> {
     Make(Result<Make, Reason>),
-    Call(Result<Call, Reason>),
-}
-
-fn countdown(words: &mut SplitWhitespace<'_>) -> Result<Task, Reason>
-    ensures { IfOk result (λ t. task_name t ≡ codes "countdown") }
-{
-    let ticket = words::ticket(words)?;
-    let count = words::small(words)?;
-    let wakes_itself = words::flag(words::word(words)?)?;
-    Ok(Task::Future(Either::Left(Countdown {
-        ticket,
-        count,
-        wakes_itself,
-    })))
-}
-
-fn letter(words: &mut SplitWhitespace<'_>) -> Result<Task, Reason>
-    ensures { IfOk result (λ t. task_name t ≡ codes "letter") }
-{
-    let ticket = words::ticket(words)?;
-    let place = words::large(words)?;
-    Ok(Task::Future(Either::Right(Letter { ticket, place })))
-}
-
-fn ticker(words: &mut SplitWhitespace<'_>) -> Result<Task, Reason>
-    ensures { IfOk result (λ t. task_name t ≡ codes "ticker") }
-{
-    let owner = words::small(words)?;
-    let items = words::small(words)?;
-    Ok(Task::Stream(Either::Left(Ticker {
-        owner,
-        next: 0,
-        items,
-    })))
-}
-
-fn mailbag(words: &mut SplitWhitespace<'_>) -> Result<Task, Reason>
-    ensures { IfOk result (λ t. task_name t ≡ codes "mailbag") }
-{
-    let (owner, next) = words::ticket(words)?;
-    let place = words::large(words)?;
-    Ok(Task::Stream(Either::Right(Mailbag { owner, next, place })))
+    Call(Result<Call<'p>, Reason>),
 }
 
 // The task of that name.
@@ -70,10 +27,25 @@ fn named_task(name: &str, words: &mut SplitWhitespace<'_>) -> Result<Task, Reaso
     ensures { IfOk result (λ t. name.now ≡ task_name t) }
 {
     match name {
-        "countdown" => countdown(words),
-        "letter" => letter(words),
-        "ticker" => ticker(words),
-        "mailbag" => mailbag(words),
+        "countdown" => Ok(Task::Future(Either::Left(Countdown {
+            ticket: words::ticket(words)?,
+            count: words::next_number(words)?,
+            wakes_itself: words::flag(words::word(words)?)?,
+        }))),
+        "letter" => Ok(Task::Future(Either::Right(Letter {
+            ticket: words::ticket(words)?,
+            place: words::next_number(words)?,
+        }))),
+        "ticker" => Ok(Task::Stream(Either::Left(Ticker {
+            owner: words::next_number(words)?,
+            next: 0,
+            items: words::next_number(words)?,
+        }))),
+        "mailbag" => Ok(Task::Stream(Either::Right(Mailbag {
+            owner: words::next_number(words)?,
+            next: words::next_number(words)?,
+            place: words::next_number(words)?,
+        }))),
         _ => Err(Reason::UnknownTask),
     }
 }
@@ -82,83 +54,50 @@ fn read_task(words: &mut SplitWhitespace<'_>) -> Result<Task, Reason> {
     named_task(words::word(words)?, words)
 }
 
-// A call that brings a task.
-fn push_call(first: &str, task: Task) -> Result<Call, Reason>
+// The call behind its first word, but a poll.
+fn other_call<'p>(first: &str, words: &mut SplitWhitespace<'_>) -> Result<Call<'p>, Reason>
     ensures { IfOk result (λ c. first.now ≡ call_name c) }
 {
     match first {
-        "push" => Ok(Call::Push(task)),
-        "push-back" => Ok(Call::PushBack(task)),
-        "push-front" => Ok(Call::PushFront(task)),
-        _ => Err(Reason::UnknownCall),
-    }
-}
-
-// A call that brings a token.
-fn token_call(first: &str, token: RawWaker) -> Result<Call, Reason>
-    ensures { IfOk result (λ c. first.now ≡ call_name c) }
-{
-    match first {
-        "clone" => Ok(Call::Clone(token)),
-        "wake" => Ok(Call::Wake(token)),
-        "wake-ref" => Ok(Call::WakeByRef(token)),
-        "drop" => Ok(Call::Drop(token)),
-        _ => Err(Reason::UnknownCall),
-    }
-}
-
-// A call that brings nothing.
-fn bare_call(first: &str) -> Result<Call, Reason>
-    ensures { IfOk result (λ c. first.now ≡ call_name c) }
-{
-    match first {
+        "push" => Ok(Call::Push(read_task(words)?)),
+        "push-back" => Ok(Call::PushBack(read_task(words)?)),
+        "push-front" => Ok(Call::PushFront(read_task(words)?)),
+        "hand" => Ok(Call::Hand(words::next_number(words)?)),
+        "clone" => Ok(Call::Clone(words::token(words)?)),
+        "wake" => Ok(Call::Wake(words::token(words)?)),
+        "wake-ref" => Ok(Call::WakeByRef(words::token(words)?)),
+        "drop" => Ok(Call::Drop(words::token(words)?)),
+        "may-end" => Ok(Call::MayEnd),
         "len" => Ok(Call::Len),
         "capacity" => Ok(Call::Capacity),
-        "may-end" => Ok(Call::MayEnd),
         _ => Err(Reason::UnknownCall),
-    }
-}
-
-// The call behind its first word, but a poll.
-fn other_call(first: &str, words: &mut SplitWhitespace<'_>) -> Result<Call, Reason>
-    ensures { IfOk result (λ c. first.now ≡ call_name c) }
-{
-    match first {
-        "push" | "push-back" | "push-front" => push_call(first, read_task(words)?),
-        "clone" | "wake" | "wake-ref" | "drop" => token_call(first, words::token(words)?),
-        "hand" => Ok(Call::Hand(words::address(words)?)),
-        _ => bare_call(first),
     }
 }
 
 // The call behind its first word. The post of a poll goes into `post`.
-fn read_call(
+fn read_call<'p>(
     first: &str,
     words: &mut SplitWhitespace<'_>,
-    post: &mut Vec<u64>,
-) -> Result<Call, Reason>
+    post: &'p mut Vec<u64>,
+) -> Result<Call<'p>, Reason>
     ensures { IfOk result (λ c. first.now ≡ call_name c) }
 {
     if first == "poll" {
         words::read_post(words, post)?;
-        return Ok(Call::Poll);
+        return Ok(Call::Poll(post.as_slice()));
     }
     let call = other_call(first, words)?;
     words::arrow(words)?;
     Ok(call)
 }
 
-// Reads the words of a line. Where it is a call that can be read, the words that are left are the answer.
-pub fn read(words: &mut SplitWhitespace<'_>, post: &mut Vec<u64>) -> Line {
-    match words.next() {
-        None => Line::Silent,
-        Some("make") => Line::Make(make::read_make(words)),
-        Some(first) => {
-            if first.starts_with('#') {
-                return Line::Silent;
-            }
-            Line::Call(read_call(first, words, post))
-        }
+// Reads the words of a line; a blank line and a comment say nothing. Where it is a call that can be read, the words
+// that are left are the answer.
+pub fn read<'p>(words: &mut SplitWhitespace<'_>, post: &'p mut Vec<u64>) -> Option<Line<'p>> {
+    match words.next()? {
+        "make" => Some(Line::Make(make::read_make(words))),
+        first if first.starts_with('#') => None,
+        first => Some(Line::Call(read_call(first, words, post))),
     }
 }
 
@@ -172,17 +111,14 @@ fn add(text: &mut String, word: &str) -> Result<(), AllocError> {
 
 // The call of a line and its answer, each with one space between its words.
 pub fn parts(heap: Global, line: &str) -> Result<(String, String), AllocError> {
+    let mut words = line.split_whitespace();
     let mut call = String::new(heap);
+    for word in words.by_ref().take_while(|word| *word != "=>") {
+        add(&mut call, word)?;
+    }
     let mut answer = String::new(heap);
-    let mut in_answer = false;
-    for word in line.split_whitespace() {
-        if in_answer {
-            add(&mut answer, word)?;
-        } else if word == "=>" {
-            in_answer = true;
-        } else {
-            add(&mut call, word)?;
-        }
+    for word in words {
+        add(&mut answer, word)?;
     }
     Ok((call, answer))
 }

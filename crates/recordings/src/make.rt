@@ -1,11 +1,12 @@
 // The lines that begin a run.
-ghost use Rattle.std.specs.Prelude.{◌≡◌, IfOk, if◌then◌else◌, Some, None, MatchResult, OnOk};
+ghost use Rattle.std.specs.Prelude.{◌≡◌, is_some, Some, None, IfOk, MatchResult, OnOk};
 ghost use Rattle.recordings.specs.Makes.{has_first, has_parking, KeyPut, MadeOf};
-ghost use Rattle.recordings.specs.Words.{kind_name, key_name};
+ghost use Rattle.recordings.specs.Words.{Named, kind_name, key_name};
 
 use crate::reason::Reason;
 use crate::words;
-use std::str::SplitWhitespace;
+use std::fmt;
+use std::str::{FromStr, SplitWhitespace};
 
 // The kinds of set and merge.
 #[derive(Clone, Copy)]
@@ -18,19 +19,19 @@ pub enum Kind {
     GrowingMerge,
 }
 
-// What is to be made. A kind has only some of the keys; `first` and `parking` are 0 where it has not.
+// What is to be made. Only some kinds have the keys `first` and `parking`.
 #[derive(Clone, Copy)]
 pub struct Make {
     pub kind: Kind,
     pub name: u32,
-    pub first: usize,
+    pub first: Option<usize>,
     pub slots: usize,
     pub wakes: usize,
-    pub parking: usize,
+    pub parking: Option<usize>,
 }
 
 // The keys that were read so far.
-#[derive(Clone, Copy)]
+#[derive(Clone, Copy, Default)]
 struct Keys {
     name: Option<u32>,
     first: Option<usize>,
@@ -62,30 +63,53 @@ impl Kind {
     }
 }
 
-fn named_kind(name: &str) -> Result<Kind, Reason>
-    ensures { IfOk result (λ k. name.now ≡ kind_name k) }
-{
-    match name {
-        "bounded" => Ok(Kind::Bounded),
-        "ordered" => Ok(Kind::Ordered),
-        "growing" => Ok(Kind::Growing),
-        "growing-ordered" => Ok(Kind::GrowingOrdered),
-        "merge" => Ok(Kind::Merge),
-        "growing-merge" => Ok(Kind::GrowingMerge),
-        _ => Err(Reason::UnknownKind),
+impl FromStr for Kind {
+    type Err = Reason;
+
+    ghost from_str_gives = { Named kind_name };
+
+    fn from_str(name: &str) -> Result<Kind, Reason> {
+        match name {
+            "bounded" => Ok(Kind::Bounded),
+            "ordered" => Ok(Kind::Ordered),
+            "growing" => Ok(Kind::Growing),
+            "growing-ordered" => Ok(Kind::GrowingOrdered),
+            "merge" => Ok(Kind::Merge),
+            "growing-merge" => Ok(Kind::GrowingMerge),
+            _ => Err(Reason::UnknownKind),
+        }
     }
 }
 
-fn named_key(name: &str) -> Result<Key, Reason>
-    ensures { IfOk result (λ k. name.now ≡ key_name k) }
-{
-    match name {
-        "name" => Ok(Key::Name),
-        "first" => Ok(Key::First),
-        "slots" => Ok(Key::Slots),
-        "wakes" => Ok(Key::Wakes),
-        "parking" => Ok(Key::Parking),
-        _ => Err(Reason::UnknownKey),
+impl fmt::Display for Kind {
+    ghost output = { λ k. Some (kind_name k) };
+
+    fn fmt<W: fmt::Write>(&self, f: &mut fmt::Formatter<W>) -> fmt::Result {
+        f.write_str(match self {
+            Kind::Bounded => "bounded",
+            Kind::Ordered => "ordered",
+            Kind::Growing => "growing",
+            Kind::GrowingOrdered => "growing-ordered",
+            Kind::Merge => "merge",
+            Kind::GrowingMerge => "growing-merge",
+        })
+    }
+}
+
+impl FromStr for Key {
+    type Err = Reason;
+
+    ghost from_str_gives = { Named key_name };
+
+    fn from_str(name: &str) -> Result<Key, Reason> {
+        match name {
+            "name" => Ok(Key::Name),
+            "first" => Ok(Key::First),
+            "slots" => Ok(Key::Slots),
+            "wakes" => Ok(Key::Wakes),
+            "parking" => Ok(Key::Parking),
+            _ => Err(Reason::UnknownKey),
+        }
     }
 }
 
@@ -105,56 +129,36 @@ fn put_key(keys: &mut Keys, key: Key, text: &str) -> Result<(), Reason>
     ensures { OnOk result (KeyPut key text.now keys.old keys.new) }
 {
     match key {
-        Key::Name => put(&mut keys.name, words::small_number(text)?),
-        Key::First => put(&mut keys.first, words::number(text)? as usize),
-        Key::Slots => put(&mut keys.slots, words::number(text)? as usize),
-        Key::Wakes => put(&mut keys.wakes, words::number(text)? as usize),
-        Key::Parking => put(&mut keys.parking, words::number(text)? as usize),
+        Key::Name => put(&mut keys.name, words::number(text)?),
+        Key::First => put(&mut keys.first, words::number(text)?),
+        Key::Slots => put(&mut keys.slots, words::number(text)?),
+        Key::Wakes => put(&mut keys.wakes, words::number(text)?),
+        Key::Parking => put(&mut keys.parking, words::number(text)?),
     }
 }
 
 // Reads one `key=value`.
 fn read_key(keys: &mut Keys, word: &str) -> Result<(), Reason> {
-    match word.split_once('=') {
-        Some((key, value)) => put_key(keys, named_key(key)?, value),
-        None => Err(Reason::UnknownKey),
-    }
+    let (key, value) = word.split_once('=').ok_or(Reason::UnknownKey)?;
+    put_key(keys, key.parse()?, value)
 }
 
 fn read_keys(words: &mut SplitWhitespace<'_>) -> Result<Keys, Reason> {
-    let mut keys = Keys {
-        name: None,
-        first: None,
-        slots: None,
-        wakes: None,
-        parking: None,
-    };
+    let mut keys = Keys::default();
     for word in words {
         read_key(&mut keys, word)?;
     }
     Ok(keys)
 }
 
-// A key that every kind has.
-fn needed<T: Copy>(key: Option<T>) -> Result<T, Reason>
-    ensures { MatchResult result (λ x. key ≡ Some x) (λ _. key ≡ None) }
-{
-    match key {
-        Some(value) => Ok(value),
-        None => Err(Reason::MissingKey),
-    }
-}
-
 // A key that only some kinds have.
-fn needed_if(has: bool, key: Option<usize>) -> Result<usize, Reason>
-    ensures { IfOk result (λ n. key ≡ (if has then Some n else None)) }
+fn needed_if(has: bool, key: Option<usize>) -> Result<Option<usize>, Reason>
+    ensures { IfOk result (λ k. (k ≡ key) × (is_some k ≡ has)) }
 {
-    if has {
-        return needed(key);
-    }
-    match key {
-        Some(_) => Err(Reason::UnknownKey),
-        None => Ok(0),
+    match (has, key) {
+        (true, None) => Err(Reason::MissingKey),
+        (false, Some(_)) => Err(Reason::UnknownKey),
+        _ => Ok(key),
     }
 }
 
@@ -164,21 +168,16 @@ fn make_of(kind: Kind, keys: Keys) -> Result<Make, Reason>
 {
     Ok(Make {
         kind,
-        name: needed(keys.name)?,
+        name: keys.name.ok_or(Reason::MissingKey)?,
         first: needed_if(kind.has_first(), keys.first)?,
-        slots: needed(keys.slots)?,
-        wakes: needed(keys.wakes)?,
+        slots: keys.slots.ok_or(Reason::MissingKey)?,
+        wakes: keys.wakes.ok_or(Reason::MissingKey)?,
         parking: needed_if(kind.has_parking(), keys.parking)?,
     })
 }
 
 // What stands behind the word `make`.
 pub fn read_make(words: &mut SplitWhitespace<'_>) -> Result<Make, Reason> {
-    match words.next() {
-        Some(name) => {
-            let kind = named_kind(name)?;
-            make_of(kind, read_keys(words)?)
-        }
-        None => Err(Reason::MissingWord),
-    }
+    let kind = words.next().ok_or(Reason::MissingWord)?.parse()?;
+    make_of(kind, read_keys(words)?)
 }

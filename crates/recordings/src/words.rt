@@ -1,10 +1,46 @@
 // The words of a call, one after the other.
-ghost use Rattle.std.specs.Prelude.{◌≡◌, IfOk};
-ghost use Rattle.recordings.specs.Words.{Decimal, flag_word};
+ghost use Rattle.std.proofs.Common.{rules};
+ghost use Rattle.std.specs.Prelude.{◌≡◌, ℕ, List, IfOk, Result};
+ghost use Rattle.recordings.specs.Words.{Decimal, Parses, Named, flag_word};
 
 use crate::reason::Reason;
-use std::str::SplitWhitespace;
+use std::num::ParseIntError;
+use std::str::{FromStr, SplitWhitespace};
 use wakes::waker::RawWaker;
+
+// An unsigned number of so many bits.
+pub trait Unsigned: FromStr<Err = ParseIntError> {
+    ghost bits: { ℕ };
+
+    ghost value: { Self → ℕ };
+
+    // which texts `parse` reads, and as what
+    ghost parses: { Parses Self.from_str_gives bits value };
+}
+
+impl Unsigned for u32 {
+    ghost bits = { 32 };
+
+    ghost value = { λ n. n };
+
+    ghost parses = { Prim.search rules };
+}
+
+impl Unsigned for u64 {
+    ghost bits = { 64 };
+
+    ghost value = { λ n. n };
+
+    ghost parses = { Prim.search rules };
+}
+
+impl Unsigned for usize {
+    ghost bits = { 64 };
+
+    ghost value = { λ n. n };
+
+    ghost parses = { Prim.search rules };
+}
 
 // The next word of the call.
 pub fn word<'a>(words: &mut SplitWhitespace<'a>) -> Result<&'a str, Reason> {
@@ -25,29 +61,18 @@ pub fn arrow(words: &mut SplitWhitespace<'_>) -> Result<(), Reason> {
 }
 
 // A decimal number, without a sign.
-pub fn number(word: &str) -> Result<u64, Reason>
-    ensures { Decimal 64 word.now result }
+pub fn number<N: Unsigned>(word: &str) -> Result<N, Reason>
+    ensures { Decimal N.bits N.value word.now result }
 {
     if word.starts_with('+') {
         return Err(Reason::BadNumber);
     }
-    match word.parse::<u64>() {
-        Ok(n) => Ok(n),
-        Err(_) => Err(Reason::BadNumber),
-    }
+    Ok(word.parse()?)
 }
 
-pub fn small_number(word: &str) -> Result<u32, Reason>
-    ensures { Decimal 32 word.now result }
-{
-    match u32::try_from(number(word)?) {
-        Ok(n) => Ok(n),
-        Err(_) => Err(Reason::BadNumber),
-    }
-}
-
+// A flag is 0 or 1; `parse` would read the words `true` and `false`.
 pub fn flag(word: &str) -> Result<bool, Reason>
-    ensures { IfOk result (λ b. word.now ≡ flag_word b) }
+    ensures { Named flag_word word.now result }
 {
     match word {
         "0" => Ok(false),
@@ -56,27 +81,20 @@ pub fn flag(word: &str) -> Result<bool, Reason>
     }
 }
 
-pub fn large(words: &mut SplitWhitespace<'_>) -> Result<u64, Reason> {
+pub fn next_number<N: Unsigned>(words: &mut SplitWhitespace<'_>) -> Result<N, Reason> {
     number(word(words)?)
 }
 
-pub fn small(words: &mut SplitWhitespace<'_>) -> Result<u32, Reason> {
-    small_number(word(words)?)
-}
-
-pub fn address(words: &mut SplitWhitespace<'_>) -> Result<usize, Reason> {
-    Ok(large(words)? as usize)
-}
-
 pub fn ticket(words: &mut SplitWhitespace<'_>) -> Result<(u32, u32), Reason> {
-    Ok((small(words)?, small(words)?))
+    Ok((next_number(words)?, next_number(words)?))
 }
 
 // A token is told by its name and its address.
 pub fn token(words: &mut SplitWhitespace<'_>) -> Result<RawWaker, Reason> {
-    let name = small(words)?;
-    let address = address(words)?;
-    Ok(RawWaker { name, address })
+    Ok(RawWaker {
+        name: next_number(words)?,
+        address: next_number(words)?,
+    })
 }
 
 // The words of the post, up to the end of the call.
@@ -86,9 +104,7 @@ pub fn read_post(words: &mut SplitWhitespace<'_>, post: &mut Vec<u64>) -> Result
         if word == "=>" {
             return Ok(());
         }
-        if post.push(number(word)?).is_err() {
-            return Err(Reason::NoMemory);
-        }
+        post.push(number(word)?)?;
     }
     Err(Reason::NoAnswer)
 }

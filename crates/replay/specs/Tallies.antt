@@ -1,8 +1,7 @@
 -- How a tally counts.
-use Rattle.std.specs.Prelude.{ℕ, ◌+◌, ◌-◌, ◌^◌, min}
+use Rattle.std.specs.Prelude.{ℕ, ◌+◌, ◌-◌, ◌^◌, min, List, slice_index, slice_set}
 use Rattle.recordings.specs.declared.make.Kind.{Kind}
 use Rattle.recordings.specs.declared.make.Kind.TheVariants.{Bounded, Ordered, Growing, GrowingOrdered, Merge, GrowingMerge}
-use Rattle.replay.specs.declared.tally.Skipped.{Skipped}
 use Rattle.replay.specs.declared.tally.Tally.{Tally}
 
 -- A count stops at the largest number.
@@ -18,14 +17,17 @@ one_call t = record { runs = t.runs; calls = more t.calls; differences = t.diffe
 abbrev pub one_difference : Tally → Tally
 one_difference t = record { runs = t.runs; calls = t.calls; differences = more t.differences; skipped = t.skipped }
 
+abbrev pub one_more_at : ℕ → List ℕ → List ℕ
+one_more_at i ns = slice_set ns i (more (slice_index ns i))
+
 -- A run that is skipped, by its kind. Bounded sets are delivered.
-abbrev pub skipped_more : Kind → Skipped → Skipped
-skipped_more Bounded s = s
-skipped_more Ordered s = record { ordered = more s.ordered; growing = s.growing; growing_ordered = s.growing_ordered; merge = s.merge; growing_merge = s.growing_merge }
-skipped_more Growing s = record { ordered = s.ordered; growing = more s.growing; growing_ordered = s.growing_ordered; merge = s.merge; growing_merge = s.growing_merge }
-skipped_more GrowingOrdered s = record { ordered = s.ordered; growing = s.growing; growing_ordered = more s.growing_ordered; merge = s.merge; growing_merge = s.growing_merge }
-skipped_more Merge s = record { ordered = s.ordered; growing = s.growing; growing_ordered = s.growing_ordered; merge = more s.merge; growing_merge = s.growing_merge }
-skipped_more GrowingMerge s = record { ordered = s.ordered; growing = s.growing; growing_ordered = s.growing_ordered; merge = s.merge; growing_merge = more s.growing_merge }
+abbrev pub skipped_more : Kind → List ℕ → List ℕ
+skipped_more Bounded ns = ns
+skipped_more Ordered ns = one_more_at 1 ns
+skipped_more Growing ns = one_more_at 2 ns
+skipped_more GrowingOrdered ns = one_more_at 3 ns
+skipped_more Merge ns = one_more_at 4 ns
+skipped_more GrowingMerge ns = one_more_at 5 ns
 
 abbrev pub one_skipped : Kind → Tally → Tally
 one_skipped k t = record { runs = t.runs; calls = t.calls; differences = t.differences; skipped = skipped_more k t.skipped }

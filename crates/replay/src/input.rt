@@ -1,4 +1,7 @@
 // The recording, a line at a time.
+ghost use Rattle.std.specs.Io.Iter.{lines_left};
+ghost use Rattle.std.specs.Iterator.{at_most};
+
 use std::alloc::Global;
 use std::io;
 use std::io::{BufRead, Lines};
@@ -10,38 +13,38 @@ pub struct Numbered {
     pub text: String,
 }
 
-// What is left of the input, and the line that was read last.
+// The lines that are left, and how many were read. Text that is not UTF-8 becomes a line that cannot be read.
 #[derive(Drop)]
 pub struct Input<B> {
     lines: Lines<B>,
-    pub line: Numbered,
+    read: u64,
+    heap: Global,
 }
 
 impl<B: BufRead + Drop> Input<B> {
     pub fn new(heap: Global, lines: Lines<B>) -> Input<B> {
-        let text = String::new(heap);
         Input {
             lines,
-            line: Numbered { number: 0, text },
+            read: 0,
+            heap,
         }
     }
+}
 
-    // Goes on to the next line, where there is one. Text that is not UTF-8 becomes a line that cannot be read.
-    pub fn advance(&mut self, heap: Global) -> io::Result<bool> {
-        let text = match self.lines.next() {
-            None => return Ok(false),
-            Some(Ok(text)) => text,
-            Some(Err(error)) => {
-                if error.kind() != io::ErrorKind::InvalidData {
-                    return Err(error);
-                }
-                String::from_str(heap, "(not UTF-8)")?
+impl<B: BufRead + Drop> Iterator for Input<B> {
+    type Item = io::Result<Numbered>;
+
+    ghost remaining = { λ s. at_most (lines_left s.lines) };
+
+    fn next(&mut self) -> Option<io::Result<Numbered>> {
+        let line = match self.lines.next()? {
+            Err(error) if error.kind() == io::ErrorKind::InvalidData => {
+                String::from_str(self.heap, "(not UTF-8)").map_err(io::Error::from)
             }
+            line => line,
         };
-        self.line = Numbered {
-            number: self.line.number.saturating_add(1),
-            text,
-        };
-        Ok(true)
+        self.read = self.read.saturating_add(1);
+        let number = self.read;
+        Some(line.map(|text| Numbered { number, text }))
     }
 }

@@ -1,9 +1,8 @@
 // Plays recordings: every run on a set of its own.
-ghost use Rattle.std.specs.Prelude.{◌≡◌, min, IfOk, vec_len};
+ghost use Rattle.std.specs.Prelude.{min, ◌≡◌, IfOk, vec_len};
 
 use crate::input::{Input, Numbered};
-use crate::tally;
-use crate::tally::Tally;
+use crate::tally::{Difference, Report, Tally};
 use recordings::call::Call;
 use recordings::line;
 use recordings::line::Line;
@@ -11,6 +10,7 @@ use recordings::make::{Kind, Make};
 use recordings::reason::Reason;
 use reruns::answer;
 use reruns::answer::Answer;
+use reruns::bounded::BoundedSet;
 use reruns::recorded::{NoSet, Recorded};
 use sets::futures_unordered_bounded::FuturesUnorderedBounded;
 use sets::futures_unordered_bounded::ending::Ending;
@@ -23,220 +23,178 @@ use std::str::SplitWhitespace;
 use std::{env, io};
 use tasks::countdown::Countdown;
 use tasks::either::Either;
+use tasks::fault::Refused;
 use tasks::letter::Letter;
 use wakes::wake_record::WakeRecord;
-
-type Task = Either<Countdown, Letter>;
 
 // No set uses more than 65,536 slots or records, so in a longer memory it answers alike.
 const MOST_MEMORY: usize = 65537;
 
-// What ends a run.
-#[derive(Clone, Copy)]
-enum Next {
-    Make(Make),
-    BadMake,
-    End,
+type Task = Either<Countdown, Letter>;
+
+// The make line that ends a run, and what it says. The last run has none.
+type Next = Option<(Numbered, Result<Make, Reason>)>;
+
+// A recording that is played: what is left of it, and what was found.
+#[derive(Drop)]
+struct Player<'r, B> {
+    input: Input<B>,
+    report: Report<'r>,
 }
 
-// Compares an answer with the recording's.
-fn compare(
-    rt: &HostRuntime,
-    tally: &mut Tally,
-    line: &Numbered,
-    call: Call,
-    expected: SplitWhitespace<'_>,
-    answer: Answer,
-) -> io::Result<()> {
-    let got = answer.to_string(rt.alloc())?;
-    if !expected.eq(got.as_str().split_whitespace()) {
-        tally::other_answer(rt, tally, line, got.as_str())?;
-    }
-    if let Answer::Refused { fault: _, back } = answer {
-        if !answer::is_own(call, back) {
-            tally::other_input(rt, tally, line)?;
-        }
-    }
-    Ok(())
-}
-
-// The run that a make line begins, or a difference where it cannot be read.
-fn begin(
-    rt: &HostRuntime,
-    tally: &mut Tally,
-    line: &Numbered,
-    make: Result<Make, Reason>,
-) -> io::Result<Next> {
-    match make {
-        Ok(make) => Ok(Next::Make(make)),
-        Err(reason) => {
-            tally::unreadable(rt, tally, line, reason)?;
-            Ok(Next::BadMake)
-        }
-    }
-}
-
-// Carries out the call of a line. A make line ends the run.
-fn serve<S: Recorded>(
-    rt: &HostRuntime,
-    tally: &mut Tally,
-    line: &Numbered,
-    set: &mut S,
-    post: &mut Vec<u64>,
-) -> io::Result<Option<Next>> {
-    let mut words = line.text.as_str().split_whitespace();
-    let call = match line::read(&mut words, post) {
-        Line::Silent => return Ok(None),
-        Line::Make(make) => return Ok(Some(begin(rt, tally, line, make)?)),
-        Line::Call(Err(reason)) => {
-            tally::unreadable(rt, tally, line, reason)?;
-            return Ok(None);
-        }
-        Line::Call(Ok(call)) => call,
-    };
-    match set.carry_out(call, post.as_slice()) {
-        Ok(answer) => {
-            tally.count_call();
-            compare(rt, tally, line, call, words, answer)?;
-        }
-        Err(reason) => tally::unreadable(rt, tally, line, reason)?,
-    }
-    Ok(None)
-}
-
-// Carries out the calls on one set, up to the next make line.
-fn follow<B: BufRead + Drop, S: Recorded>(
-    rt: &HostRuntime,
-    input: &mut Input<B>,
-    tally: &mut Tally,
-    set: &mut S,
-) -> io::Result<Next> {
-    let heap = rt.alloc();
-    let mut post = Vec::new(heap);
-    for _ in 0..u64::MAX {
-        if !input.advance(heap)? {
-            break;
-        }
-        if let Some(next) = serve(rt, tally, &input.line, set, &mut post)? {
-            return Ok(next);
-        }
-    }
-    Ok(Next::End)
-}
-
-// Passes over the lines of a run of a kind that is not delivered yet, whatever they say.
-fn skip<B: BufRead + Drop>(
-    rt: &HostRuntime,
-    input: &mut Input<B>,
-    tally: &mut Tally,
-) -> io::Result<Next> {
-    let heap = rt.alloc();
-    let mut post = Vec::new(heap);
-    for _ in 0..u64::MAX {
-        if !input.advance(heap)? {
-            break;
-        }
-        let mut words = input.line.text.as_str().split_whitespace();
-        if let Line::Make(make) = line::read(&mut words, &mut post) {
-            return begin(rt, tally, &input.line, make);
-        }
-    }
-    Ok(Next::End)
-}
-
-fn slot_memory(heap: Global, slots: usize) -> Result<Vec<Slot<Task>>, AllocError>
-    ensures { IfOk result (λ v. vec_len v ≡ min slots 65537) }
+fn memory<T: Copy>(heap: Global, fresh: T, len: usize) -> Result<Vec<T>, AllocError>
+    ensures { IfOk result (λ v. vec_len v ≡ min len 65537) }
 {
-    vec![in heap; Slot::NextFree(0); slots.min(MOST_MEMORY)]
+    vec![in heap; fresh; len.min(MOST_MEMORY)]
 }
 
-fn wake_memory(heap: Global, wakes: usize) -> Result<Vec<WakeRecord>, AllocError>
-    ensures { IfOk result (λ v. vec_len v ≡ min wakes 65537) }
-{
-    vec![in heap; WakeRecord {
-        queued: false,
-        next: 0
-    }; wakes.min(MOST_MEMORY)]
-}
-
-// A run of a bounded unordered set.
-fn bounded<B: BufRead + Drop>(
-    rt: &HostRuntime,
-    input: &mut Input<B>,
-    tally: &mut Tally,
-    make: Make,
-) -> io::Result<Next> {
-    let heap = rt.alloc();
-    let Ok(mut slots) = slot_memory(heap, make.slots) else {
-        return no_memory(rt, input, tally);
-    };
-    let Ok(mut records) = wake_memory(heap, make.wakes) else {
-        return no_memory(rt, input, tally);
-    };
-    tally.count_run();
-    let mut set = FuturesUnorderedBounded::new(
-        make.name,
-        slots.as_mut_slice(),
-        records.as_mut_slice(),
-    );
-    let next = follow(rt, input, tally, &mut set);
+// The memory of a set, which is taken apart, or abandoned if tokens are out.
+fn end<'a>(set: BoundedSet<'a>) -> Memory<'a, Task> {
     match set.take_apart() {
-        Ending::Ended(memory) => {
-            let Memory {
-                slots: _,
-                records: _,
-            } = memory;
-        }
-        Ending::Refused(_, unended) => {
-            let Memory {
-                slots: _,
-                records: _,
-            } = unended.abandon();
-        }
+        Ending::Ended(memory) => memory,
+        Ending::Refused(_, unended) => unended.abandon(),
     }
-    next
 }
 
-// Where the allocator gives nothing, there is no set up to the next make line.
-fn no_memory<B: BufRead + Drop>(
-    rt: &HostRuntime,
-    input: &mut Input<B>,
-    tally: &mut Tally,
-) -> io::Result<Next> {
-    tally::unreadable(rt, tally, &input.line, Reason::NoMemory)?;
-    Ok(Next::BadMake)
+impl Report<'_> {
+    // Compares an answer with the recording's.
+    fn compare(
+        &mut self,
+        line: &Numbered,
+        call: Call<'_>,
+        expected: SplitWhitespace<'_>,
+        answer: Answer,
+    ) -> io::Result<()> {
+        let got = answer.to_string(self.rt.alloc())?;
+        if !expected.eq(got.as_str().split_whitespace()) {
+            self.differs(line, Difference::OtherAnswer(got.as_str()))?;
+        }
+        if let Answer::Refused(Refused { fault: _, input }) = answer {
+            if !answer::is_own(call, input) {
+                self.differs(line, Difference::OtherInput)?;
+            }
+        }
+        Ok(())
+    }
+
+    // Carries out the call of a line. A make line ends the run.
+    fn serve<S: Recorded>(
+        &mut self,
+        line: &Numbered,
+        set: &mut S,
+        post: &mut Vec<u64>,
+    ) -> io::Result<Option<Result<Make, Reason>>> {
+        let mut words = line.text.as_str().split_whitespace();
+        let call = match line::read(&mut words, post) {
+            None => return Ok(None),
+            Some(Line::Make(make)) => return Ok(Some(make)),
+            Some(Line::Call(call)) => call,
+        };
+        match call.and_then(|call| Ok((call, set.carry_out(call)?))) {
+            Ok((call, answer)) => {
+                self.tally.count_call();
+                self.compare(line, call, words, answer)?;
+            }
+            Err(reason) => self.differs(line, Difference::Unreadable(reason))?,
+        }
+        Ok(None)
+    }
 }
 
-// One run. Each kind of set and merge is a case of its own.
-fn run<B: BufRead + Drop>(
-    rt: &HostRuntime,
-    input: &mut Input<B>,
-    tally: &mut Tally,
-    make: Make,
-) -> io::Result<Next> {
-    match make.kind {
-        Kind::Bounded => bounded(rt, input, tally, make),
-        other => {
-            tally.count_skipped(other);
-            skip(rt, input, tally)
+impl<B: BufRead + Drop> Player<'_, B> {
+    // Carries out the calls on one set, up to the next make line.
+    fn follow<S: Recorded>(&mut self, set: &mut S) -> io::Result<Next> {
+        let mut post = Vec::new(self.report.rt.alloc());
+        for line in self.input.by_ref() {
+            let line = line?;
+            if let Some(make) = self.report.serve(&line, set, &mut post)? {
+                return Ok(Some((line, make)));
+            }
+        }
+        Ok(None)
+    }
+
+    // Passes over the lines of a run of a kind that is not delivered yet, whatever they say.
+    fn skip(&mut self) -> io::Result<Next> {
+        let mut post = Vec::new(self.report.rt.alloc());
+        for line in self.input.by_ref() {
+            let line = line?;
+            let mut words = line.text.as_str().split_whitespace();
+            if let Some(Line::Make(make)) = line::read(&mut words, &mut post) {
+                return Ok(Some((line, make)));
+            }
+        }
+        Ok(None)
+    }
+
+    // Where no set can be made, there is none up to the next make line.
+    fn without_set(&mut self, line: &Numbered, reason: Reason) -> io::Result<Next> {
+        self.report.differs(line, Difference::Unreadable(reason))?;
+        self.follow(&mut NoSet)
+    }
+
+    // A run of a bounded unordered set.
+    fn bounded(&mut self, line: &Numbered, make: Make) -> io::Result<Next> {
+        let heap = self.report.rt.alloc();
+        let slot = Slot::NextFree(0);
+        let record = WakeRecord {
+            queued: false,
+            next: 0,
+        };
+        let (Ok(mut slots), Ok(mut records)) = (
+            memory(heap, slot, make.slots),
+            memory(heap, record, make.wakes),
+        ) else {
+            return self.without_set(line, Reason::NoMemory);
+        };
+        self.report.tally.count_run();
+        let mut set = FuturesUnorderedBounded::new(
+            make.name,
+            slots.as_mut_slice(),
+            records.as_mut_slice(),
+        );
+        let next = self.follow(&mut set);
+        let Memory {
+            slots: _,
+            records: _,
+        } = end(set);
+        next
+    }
+
+    // The run that a make line begins. Each kind of set and merge is a case of its own.
+    fn run(&mut self, line: &Numbered, make: Result<Make, Reason>) -> io::Result<Next> {
+        match make {
+            Ok(make) => match make.kind {
+                Kind::Bounded => self.bounded(line, make),
+                other => {
+                    self.report.tally.count_skipped(other);
+                    self.skip()
+                }
+            },
+            Err(reason) => self.without_set(line, reason),
         }
     }
 }
 
 // All runs of the input; how many differences there are.
 fn play<B: BufRead + Drop>(rt: &HostRuntime, lines: Lines<B>) -> io::Result<u64> {
-    let mut input = Input::new(rt.alloc(), lines);
-    let mut tally = tally::new();
-    let mut next = Next::BadMake;
+    let mut player = Player {
+        input: Input::new(rt.alloc(), lines),
+        report: Report {
+            rt,
+            tally: Tally::default(),
+        },
+    };
+    let mut next = player.follow(&mut NoSet)?;
+    // A run takes lines of its own, so no iterator over them gives the runs.
     for _ in 0..u64::MAX {
-        next = match next {
-            Next::Make(make) => run(rt, &mut input, &mut tally, make)?,
-            Next::BadMake => follow(rt, &mut input, &mut tally, &mut NoSet)?,
-            Next::End => break,
+        let Some((line, make)) = next else {
+            break;
         };
+        next = player.run(&line, make)?;
     }
-    tally::show(rt, &tally)?;
-    Ok(tally.differences())
+    player.report.show()?;
+    Ok(player.report.tally.differences())
 }
 
 // Plays the file that the first argument names, or the standard input.

@@ -1,5 +1,5 @@
 // What was counted, and what is printed of it.
-ghost use Rattle.std.specs.Prelude.{◌≡◌, ◌+◌, nat_lt};
+ghost use Rattle.std.specs.Prelude.{◌≡◌, nat_lt};
 ghost use Rattle.replay.specs.Tallies.{one_run, one_call, one_difference, one_skipped};
 
 use crate::input::Numbered;
@@ -11,37 +11,23 @@ use std::io;
 // Only the first differences are printed.
 const MOST_PRINTED: u64 = 20;
 
-// The runs of the kinds that are not delivered yet.
-#[derive(Clone, Copy)]
-struct Skipped {
-    ordered: u64,
-    growing: u64,
-    growing_ordered: u64,
-    merge: u64,
-    growing_merge: u64,
-}
+// All kinds, in the order in which they are shown.
+const KINDS: [Kind; 6] = [
+    Kind::Bounded,
+    Kind::Ordered,
+    Kind::Growing,
+    Kind::GrowingOrdered,
+    Kind::Merge,
+    Kind::GrowingMerge,
+];
 
-#[derive(Clone, Copy)]
+// Of the runs that were skipped there is a count for each kind.
+#[derive(Clone, Copy, Default)]
 pub struct Tally {
     runs: u64,
     calls: u64,
     differences: u64,
-    skipped: Skipped,
-}
-
-pub fn new() -> Tally {
-    Tally {
-        runs: 0,
-        calls: 0,
-        differences: 0,
-        skipped: Skipped {
-            ordered: 0,
-            growing: 0,
-            growing_ordered: 0,
-            merge: 0,
-            growing_merge: 0,
-        },
-    }
+    skipped: [u64; 6],
 }
 
 impl Tally {
@@ -67,16 +53,9 @@ impl Tally {
     pub fn count_skipped(&mut self, kind: Kind)
         ensures { self.new ≡ one_skipped kind self.old }
     {
-        let skipped = &mut self.skipped;
-        match kind {
-            Kind::Bounded => {}
-            Kind::Ordered => skipped.ordered = skipped.ordered.saturating_add(1),
-            Kind::Growing => skipped.growing = skipped.growing.saturating_add(1),
-            Kind::GrowingOrdered => {
-                skipped.growing_ordered = skipped.growing_ordered.saturating_add(1)
-            }
-            Kind::Merge => skipped.merge = skipped.merge.saturating_add(1),
-            Kind::GrowingMerge => skipped.growing_merge = skipped.growing_merge.saturating_add(1),
+        if !matches!(kind, Kind::Bounded) {
+            let place = kind as usize;
+            self.skipped[place] = self.skipped[place].saturating_add(1);
         }
     }
 
@@ -91,84 +70,83 @@ impl Tally {
     }
 }
 
-// A line that is no call.
-pub fn unreadable(
-    rt: &HostRuntime,
-    tally: &mut Tally,
-    line: &Numbered,
-    reason: Reason,
-) -> io::Result<()>
-    ensures { tally.new ≡ one_difference tally.old }
-{
-    if !tally.count_difference() {
-        return Ok(());
-    }
-    let number = line.number;
-    let text = line.text.as_str().trim();
-    println!(rt; "line {number}: {text}: {reason}")
+// What is not as the recording has it.
+#[derive(Clone, Copy)]
+pub enum Difference<'a> {
+    // the line is no call
+    Unreadable(Reason),
+    // the call has this answer, and the recording another
+    OtherAnswer(&'a str),
+    // a refused call hands back another input than its own
+    OtherInput,
 }
 
-// A call whose answer is another than the recording's.
-pub fn other_answer(
-    rt: &HostRuntime,
-    tally: &mut Tally,
-    line: &Numbered,
-    got: &str,
-) -> io::Result<()>
-    ensures { tally.new ≡ one_difference tally.old }
-{
-    if !tally.count_difference() {
-        return Ok(());
-    }
-    let number = line.number;
-    let (call, answer) = line::parts(rt.alloc(), line.text.as_str())?;
-    println!(rt; "line {number}: {call}: expected '{answer}', got '{got}'")
+// What was counted so far, and where it is printed.
+#[derive(Drop)]
+pub struct Report<'r> {
+    pub rt: &'r HostRuntime,
+    pub tally: Tally,
 }
 
-// A refused call that hands back another input than its own.
-pub fn other_input(rt: &HostRuntime, tally: &mut Tally, line: &Numbered) -> io::Result<()>
-    ensures { tally.new ≡ one_difference tally.old }
-{
-    if !tally.count_difference() {
-        return Ok(());
+impl Report<'_> {
+    // Counts a difference in a line, and prints it if it is one of the first.
+    pub fn differs(&mut self, line: &Numbered, difference: Difference<'_>) -> io::Result<()>
+        ensures { self.new.tally ≡ one_difference self.old.tally }
+    {
+        if !self.tally.count_difference() {
+            return Ok(());
+        }
+        let rt = self.rt;
+        let number = line.number;
+        let text = line.text.as_str();
+        match difference {
+            Difference::Unreadable(reason) => {
+                let text = text.trim();
+                println!(rt; "line {number}: {text}: {reason}")
+            }
+            Difference::OtherAnswer(got) => {
+                let (call, answer) = line::parts(rt.alloc(), text)?;
+                println!(rt; "line {number}: {call}: expected '{answer}', got '{got}'")
+            }
+            Difference::OtherInput => {
+                let (call, _) = line::parts(rt.alloc(), text)?;
+                println!(rt; "line {number}: {call}: handed back another input")
+            }
+        }
     }
-    let number = line.number;
-    let (call, _) = line::parts(rt.alloc(), line.text.as_str())?;
-    println!(rt; "line {number}: {call}: handed back another input")
-}
 
-// Adds a kind to the line of skipped runs.
-fn show_kind(rt: &HostRuntime, shown: &mut bool, runs: u64, kind: &str) -> io::Result<()> {
-    if runs == 0 {
-        return Ok(());
+    // The runs of the kinds that are not delivered yet, where there are any.
+    fn show_skipped(&self) -> io::Result<()> {
+        let rt = self.rt;
+        let counts = self.tally.skipped;
+        let mut skipped = KINDS
+            .iter()
+            .map(|kind| (*kind, counts[*kind as usize]))
+            .filter(|(_, runs)| *runs > 0);
+        let Some((kind, runs)) = skipped.next() else {
+            return Ok(());
+        };
+        print!(rt; "skipped: {runs} runs of {kind}")?;
+        for (kind, runs) in skipped {
+            print!(rt; ", {runs} runs of {kind}")?;
+        }
+        println!(rt; "")
     }
-    let before = if *shown { ", " } else { "skipped: " };
-    *shown = true;
-    print!(rt; "{before}{runs} runs of {kind}")
-}
 
-fn show_skipped(rt: &HostRuntime, skipped: Skipped) -> io::Result<()> {
-    let mut shown = false;
-    show_kind(rt, &mut shown, skipped.ordered, "ordered")?;
-    show_kind(rt, &mut shown, skipped.growing, "growing")?;
-    show_kind(rt, &mut shown, skipped.growing_ordered, "growing-ordered")?;
-    show_kind(rt, &mut shown, skipped.merge, "merge")?;
-    show_kind(rt, &mut shown, skipped.growing_merge, "growing-merge")?;
-    if shown {
-        println!(rt; "")?;
+    // The last lines.
+    pub fn show(&self) -> io::Result<()> {
+        let rt = self.rt;
+        let Tally {
+            runs,
+            calls,
+            differences,
+            skipped: _,
+        } = self.tally;
+        if differences > MOST_PRINTED {
+            let more = differences - MOST_PRINTED;
+            println!(rt; "and {more} more differences")?;
+        }
+        self.show_skipped()?;
+        println!(rt; "{runs} runs, {calls} calls, {differences} differences")
     }
-    Ok(())
-}
-
-// The last lines.
-pub fn show(rt: &HostRuntime, tally: &Tally) -> io::Result<()> {
-    let runs = tally.runs;
-    let calls = tally.calls;
-    let differences = tally.differences;
-    if differences > MOST_PRINTED {
-        let more = differences - MOST_PRINTED;
-        println!(rt; "and {more} more differences")?;
-    }
-    show_skipped(rt, tally.skipped)?;
-    println!(rt; "{runs} runs, {calls} calls, {differences} differences")
 }

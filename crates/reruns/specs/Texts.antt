@@ -2,11 +2,11 @@
 use Rattle.std.specs.Prelude.{ℕ, List, ◌++◌, Some, None, codes, decimal, Option}
 use Rattle.reruns.specs.declared.answer.Answer.{Answer}
 use Rattle.reruns.specs.declared.answer.Answer.TheVariants.{At, Token, Notice, Dropped, Polled, Number, Yes, Refused}
-use Rattle.reruns.specs.declared.answer.Found.{Found}
-use Rattle.reruns.specs.declared.answer.Found.TheVariants.{Pending, Nothing, Ready}
 use Rattle.reruns.specs.declared.answer.Yielded.{Yielded}
 use Rattle.tasks.specs.Faults.{number_of, layer_of, place_of, inside_of}
 use Rattle.tasks.specs.declared.fault.Fault.{Fault}
+use Rattle.tasks.specs.declared.poll.Poll.{Poll}
+use Rattle.tasks.specs.declared.poll.Poll.TheVariants.{Ready, Pending}
 
 -- Two texts with a space between them.
 infixr 60 ◌␣◌
@@ -21,10 +21,10 @@ word_text None = codes "-"
 abbrev pub yielded_text : Yielded → List ℕ
 yielded_text y = decimal y.ticket.0 ␣ decimal y.ticket.1 ␣ word_text y.word
 
-abbrev pub found_text : Found → List ℕ
+abbrev pub found_text : Poll (Option Yielded) → List ℕ
 found_text Pending = codes "pending"
-found_text Nothing = codes "none"
-found_text (Ready y) = codes "ready " ++ yielded_text y
+found_text (Ready None) = codes "none"
+found_text (Ready (Some y)) = codes "ready " ++ yielded_text y
 
 abbrev pub numbers_text : Fault → List ℕ
 numbers_text f = decimal (number_of f) ␣ decimal (layer_of f) ␣ decimal (place_of f)
@@ -41,7 +41,7 @@ answer_text (At a) = codes "at " ++ decimal a
 answer_text (Token t) = codes "token " ++ (decimal t.name ␣ decimal t.address)
 answer_text (Notice n) = codes "notice " ++ decimal n
 answer_text Dropped = codes "dropped"
-answer_text (Polled o n t) = found_text o ␣ decimal n ␣ decimal t
+answer_text (Polled p) = found_text p.poll ␣ decimal p.notices ␣ decimal p.turns
 answer_text (Number n) = decimal n
 answer_text Yes = codes "yes"
-answer_text (Refused f b) = fault_text f
+answer_text (Refused r) = fault_text r.fault

@@ -1,26 +1,24 @@
 // The answer of a recorded call.
 ghost use Rattle.std.specs.Prelude.{◌≡◌, T, Some};
 ghost use Rattle.recordings.specs.Inputs.{input_of};
-ghost use Rattle.reruns.specs.Texts.{yielded_text, found_text, numbers_text, fault_text, answer_text};
+ghost use Rattle.recordings.specs.declared.call.Task.TheVariants.{Future};
+ghost use Rattle.reruns.specs.Answers.{yielded_of, polled_of, token_answer_of, lent_of, task_back_of, address_back_of, token_back_of};
+ghost use Rattle.reruns.specs.Texts.{yielded_text, numbers_text, answer_text};
 
-use recordings::call::{Back, Call};
+use recordings::call::{Call, Input, Task};
 use std::fmt;
-use tasks::fault::Fault;
-use wakes::waker::RawWaker;
+use tasks::countdown::Countdown;
+use tasks::either::Either;
+use tasks::fault::{Fault, Refused};
+use tasks::letter::{Delivery, Letter};
+use tasks::poll::{Poll, Polled};
+use wakes::waker::{RawWaker, Waker};
 
-// What a poll yields: a ticket, and the word of a delivery.
+// What a poll of any set or merge yields: a ticket, and the word of a delivery.
 #[derive(Clone, Copy)]
 pub struct Yielded {
     pub ticket: (u32, u32),
     pub word: Option<u64>,
-}
-
-// What a poll found.
-#[derive(Clone, Copy)]
-pub enum Found {
-    Pending,
-    Nothing,
-    Ready(Yielded),
 }
 
 #[derive(Clone, Copy)]
@@ -29,17 +27,92 @@ pub enum Answer {
     Token(RawWaker),
     Notice(u32),
     Dropped,
-    Polled {
-        found: Found,
-        notices: u32,
-        turns: u32,
-    },
+    Polled(Polled<Option<Yielded>>),
     Number(usize),
     Yes,
-    Refused {
-        fault: Fault,
-        back: Back,
-    },
+    Refused(Refused<Option<Input>>),
+}
+
+impl From<Either<(u32, u32), Delivery>> for Yielded {
+    ghost from_gives = { λ o y. y ≡ yielded_of o };
+
+    fn from(output: Either<(u32, u32), Delivery>) -> Yielded {
+        match output {
+            Either::Left(ticket) => Yielded { ticket, word: None },
+            Either::Right(Delivery { ticket, word }) => Yielded {
+                ticket,
+                word: Some(word),
+            },
+        }
+    }
+}
+
+impl From<Polled<Option<Either<(u32, u32), Delivery>>>> for Answer {
+    ghost from_gives = { λ p a. a ≡ polled_of p };
+
+    fn from(polled: Polled<Option<Either<(u32, u32), Delivery>>>) -> Answer {
+        let poll = match polled.poll {
+            Poll::Ready(output) => Poll::Ready(output.map(Yielded::from)),
+            Poll::Pending => Poll::Pending,
+        };
+        Answer::Polled(Polled {
+            poll,
+            notices: polled.notices,
+            turns: polled.turns,
+        })
+    }
+}
+
+impl From<Waker> for Answer {
+    ghost from_gives = { λ t a. a ≡ token_answer_of t };
+
+    fn from(token: Waker) -> Answer {
+        Answer::Token(token.into_raw())
+    }
+}
+
+// A call that lent its token hands nothing back.
+impl From<Fault> for Answer {
+    ghost from_gives = { λ f a. a ≡ lent_of f };
+
+    fn from(fault: Fault) -> Answer {
+        Answer::Refused(Refused { fault, input: None })
+    }
+}
+
+// A refused call hands back what it was given.
+impl From<Refused<Either<Countdown, Letter>>> for Answer {
+    ghost from_gives = { λ r a. a ≡ task_back_of Future r };
+
+    fn from(refused: Refused<Either<Countdown, Letter>>) -> Answer {
+        Answer::Refused(Refused {
+            fault: refused.fault,
+            input: Some(Input::Task(Task::Future(refused.input))),
+        })
+    }
+}
+
+impl From<Refused<usize>> for Answer {
+    ghost from_gives = { λ r a. a ≡ address_back_of r };
+
+    fn from(refused: Refused<usize>) -> Answer {
+        Answer::Refused(Refused {
+            fault: refused.fault,
+            input: Some(Input::Address(refused.input)),
+        })
+    }
+}
+
+impl From<Refused<Waker>> for Answer {
+    ghost from_gives = { λ r a. a ≡ token_back_of r };
+
+    fn from(refused: Refused<Waker>) -> Answer {
+        let Refused { fault, input } = refused;
+        Answer::Refused(Refused {
+            fault,
+            input: Some(Input::Token(input.into_raw())),
+        })
+    }
 }
 
 impl fmt::Display for Yielded {
@@ -54,19 +127,7 @@ impl fmt::Display for Yielded {
     }
 }
 
-impl fmt::Display for Found {
-    ghost output = { λ o. Some (found_text o) };
-
-    fn fmt<W: fmt::Write>(&self, f: &mut fmt::Formatter<W>) -> fmt::Result {
-        match *self {
-            Found::Pending => f.write_str("pending"),
-            Found::Nothing => f.write_str("none"),
-            Found::Ready(yielded) => write!(f, "ready {yielded}"),
-        }
-    }
-}
-
-// A fault by its three numbers.
+// A fault by its three numbers, as a recording has it.
 #[derive(Drop)]
 struct Numbers(Fault);
 
@@ -81,25 +142,6 @@ impl fmt::Display for Numbers {
     }
 }
 
-// A fault with the fault inside it.
-#[derive(Drop)]
-struct Whole(Fault);
-
-impl fmt::Display for Whole {
-    ghost output = { λ w. Some (fault_text w.0) };
-
-    fn fmt<W: fmt::Write>(&self, f: &mut fmt::Formatter<W>) -> fmt::Result {
-        let outer = Numbers(self.0);
-        match self.0.inside() {
-            None => write!(f, "fault {outer}"),
-            Some(fault) => {
-                let inner = Numbers(fault);
-                write!(f, "fault {outer} inside {inner}")
-            }
-        }
-    }
-}
-
 impl fmt::Display for Answer {
     ghost output = { λ a. Some (answer_text a) };
 
@@ -109,25 +151,32 @@ impl fmt::Display for Answer {
             Answer::Token(RawWaker { name, address }) => write!(f, "token {name} {address}"),
             Answer::Notice(notice) => write!(f, "notice {notice}"),
             Answer::Dropped => f.write_str("dropped"),
-            Answer::Polled {
-                found,
-                notices,
-                turns,
-            } => write!(f, "{found} {notices} {turns}"),
+            Answer::Polled(polled) => {
+                let notices = polled.notices;
+                let turns = polled.turns;
+                match polled.poll {
+                    Poll::Pending => write!(f, "pending {notices} {turns}"),
+                    Poll::Ready(None) => write!(f, "none {notices} {turns}"),
+                    Poll::Ready(Some(yielded)) => write!(f, "ready {yielded} {notices} {turns}"),
+                }
+            }
             Answer::Number(number) => write!(f, "{number}"),
             Answer::Yes => f.write_str("yes"),
-            Answer::Refused { fault, back: _ } => {
-                let whole = Whole(fault);
-                write!(f, "{whole}")
+            Answer::Refused(Refused { fault, input: _ }) => {
+                let outer = Numbers(fault);
+                match fault.inside().map(Numbers) {
+                    None => write!(f, "fault {outer}"),
+                    Some(inner) => write!(f, "fault {outer} inside {inner}"),
+                }
             }
         }
     }
 }
 
 // Whether what a refused call handed back is what it was given.
-pub fn is_own(call: Call, back: Back) -> bool
-    ensures only { T result → back ≡ input_of call }
-    ensures always { back ≡ input_of call → T result }
+pub fn is_own(call: Call<'_>, back: Option<Input>) -> bool
+    ensures only { T result → back ≡ input_of call.entry }
+    ensures always { back ≡ input_of call.entry → T result }
 {
     back == call.input()
 }
