@@ -10,11 +10,8 @@ use recordings::make::{Kind, Make};
 use recordings::reason::Reason;
 use reruns::answer;
 use reruns::answer::Answer;
-use reruns::bounded::BoundedSet;
 use reruns::recorded::{NoSet, Recorded};
 use sets::futures_unordered_bounded::FuturesUnorderedBounded;
-use sets::futures_unordered_bounded::ending::Ending;
-use sets::memory::Memory;
 use slots::slot::Slot;
 use std::alloc::{AllocError, Global};
 use std::fs::File;
@@ -46,14 +43,6 @@ fn memory<T: Copy>(heap: Global, fresh: T, len: usize) -> Result<Vec<T>, AllocEr
     ensures { IfOk result (λ v. vec_len v ≡ min len 65537) }
 {
     vec![in heap; fresh; len.min(MOST_MEMORY)]
-}
-
-// The memory of a set, which is taken apart, or abandoned if tokens are out.
-fn end<'a>(set: BoundedSet<'a>) -> Memory<'a, Task> {
-    match set.take_apart() {
-        Ending::Ended(memory) => memory,
-        Ending::Refused(_, unended) => unended.abandon(),
-    }
 }
 
 impl Report<'_> {
@@ -137,10 +126,7 @@ impl<B: BufRead + Drop> Player<'_, B> {
     fn bounded(&mut self, line: &Numbered, make: Make) -> io::Result<Next> {
         let heap = self.report.rt.alloc();
         let slot = Slot::NextFree(0);
-        let record = WakeRecord {
-            queued: false,
-            next: 0,
-        };
+        let record = WakeRecord::default();
         let (Ok(mut slots), Ok(mut records)) = (
             memory(heap, slot, make.slots),
             memory(heap, record, make.wakes),
@@ -154,10 +140,7 @@ impl<B: BufRead + Drop> Player<'_, B> {
             records.as_mut_slice(),
         );
         let next = self.follow(&mut set);
-        let Memory {
-            slots: _,
-            records: _,
-        } = end(set);
+        let _ = set.abandon();
         next
     }
 

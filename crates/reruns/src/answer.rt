@@ -51,10 +51,7 @@ impl From<Polled<Option<Either<(u32, u32), Delivery>>>> for Answer {
     ghost from_gives = { λ p a. a ≡ polled_of p };
 
     fn from(polled: Polled<Option<Either<(u32, u32), Delivery>>>) -> Answer {
-        let poll = match polled.poll {
-            Poll::Ready(output) => Poll::Ready(output.map(Yielded::from)),
-            Poll::Pending => Poll::Pending,
-        };
+        let poll = polled.poll.map(|output| output.map(Yielded::from));
         Answer::Polled(Polled {
             poll,
             notices: polled.notices,
@@ -85,10 +82,7 @@ impl From<Refused<Either<Countdown, Letter>>> for Answer {
     ghost from_gives = { λ r a. a ≡ task_back_of Future r };
 
     fn from(refused: Refused<Either<Countdown, Letter>>) -> Answer {
-        Answer::Refused(Refused {
-            fault: refused.fault,
-            input: Some(Input::Task(Task::Future(refused.input))),
-        })
+        Answer::Refused(refused.map(|task| Some(Input::Task(Task::Future(task)))))
     }
 }
 
@@ -96,10 +90,7 @@ impl From<Refused<usize>> for Answer {
     ghost from_gives = { λ r a. a ≡ address_back_of r };
 
     fn from(refused: Refused<usize>) -> Answer {
-        Answer::Refused(Refused {
-            fault: refused.fault,
-            input: Some(Input::Address(refused.input)),
-        })
+        Answer::Refused(refused.map(|address| Some(Input::Address(address))))
     }
 }
 
@@ -107,11 +98,7 @@ impl From<Refused<Waker>> for Answer {
     ghost from_gives = { λ r a. a ≡ token_back_of r };
 
     fn from(refused: Refused<Waker>) -> Answer {
-        let Refused { fault, input } = refused;
-        Answer::Refused(Refused {
-            fault,
-            input: Some(Input::Token(input.into_raw())),
-        })
+        Answer::Refused(refused.map(|token| Some(Input::Token(token.into_raw()))))
     }
 }
 

@@ -18,6 +18,7 @@ use wakes::waker::{RawWaker, Waker};
 // A bounded unordered set that holds countdowns and letters side by side.
 pub type BoundedSet<'a> = FuturesUnorderedBounded<'a, Either<Countdown, Letter>>;
 
+// This and the next lend a token. One function that takes the call as a closure leaves open what set the closure leaves.
 fn clone(set: &mut BoundedSet<'_>, raw: RawWaker) -> Answer
     ensures answer { result ≡ answer_of (set_of set.old) (CloneCall (token_of raw)) }
     ensures after { set_of set.new ≡ after (set_of set.old) (CloneCall (token_of raw)) }
