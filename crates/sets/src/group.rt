@@ -40,7 +40,7 @@ impl<'a, F: Copy> TaskGroup<'a, F> {
     ghost use Rattle.sets.specs.Group.{joined, found, polling, turn as turn_of, woken_at};
     ghost use Rattle.slots.specs.Table.{full, occupied_at, len as tasks_in};
 
-    // A fresh group in that part of both memories.
+    // A fresh group in that part of both memories. The caller has them as two slices, so they come as two.
     pub fn new(
         slots: &'a mut [Slot<F>],
         records: &'a mut [WakeRecord],

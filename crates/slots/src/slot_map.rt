@@ -78,7 +78,7 @@ impl<'a, F: Copy> PinSlotMap<'a, F> {
         get_in(&self.slots[part.start..part.end], key)
     }
 
-    // Polls the task in a slot, in place.
+    // Polls the task in a slot, in place. The pair is the task's own.
     pub fn poll_at<P: PollFn<F>>(
         &mut self,
         key: usize,

@@ -63,7 +63,7 @@ pub fn get_in<F: Copy>(slots: &[Slot<F>], key: usize) -> Option<F>
     }
 }
 
-// Polls the task in a slot, in place.
+// Polls the task in a slot, in place. The pair is the task's own.
 pub fn poll_in<F: Copy, P: PollFn<F>>(
     slots: &mut [Slot<F>],
     key: usize,

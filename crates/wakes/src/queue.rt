@@ -6,7 +6,8 @@ ghost use Rattle.wakes.specs.Queue.{flags, links, waiting_in, Queued};
 use crate::wake_record::WakeRecord;
 
 // The ends of a queue whose links lie in the wake records, and how many slots wait in it: no heap may be used, so the
-// queue is threaded through the caller's memory.
+// queue is threaded through the caller's memory. The ends mean something while any waits; an Option of them beside the count
+// would say that twice.
 #[derive(Clone, Copy, PartialEq, Debug, Default)]
 pub struct Queue {
     pub head: usize,
