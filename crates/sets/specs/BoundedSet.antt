@@ -3,7 +3,7 @@ use Rattle.std.specs.Prelude.{◌≡◌, ℕ, ◌+◌, false, ◌++◌, length, 
 use Rattle.lists.specs.Walks.{member}
 use Rattle.runs.specs.Tokens.{end_fault}
 use Rattle.sets.specs.Bounded.{Bounded, slots_of, tokened}
-use Rattle.sets.specs.Ground.{ground, group_in}
+use Rattle.sets.specs.Ground.{ground_of, group_in}
 use Rattle.sets.specs.declared.futures_unordered_bounded.FuturesUnorderedBounded.{FuturesUnorderedBounded}
 use Rattle.sets.specs.declared.memory.Memory.{Memory}
 use Rattle.tasks.specs.declared.fault.Refused.{Refused}
@@ -13,9 +13,9 @@ abbrev pub set_of : {F : Type 0} → FuturesUnorderedBounded F → Bounded F
 set_of s = record {
   name = s.name;
   out = s.tokens;
-  group = group_in (ground s.group);
-  slots_beyond = (ground s.group).tasks.beyond;
-  records_beyond = (ground s.group).shared.beyond;
+  group = group_in (ground_of s.group);
+  slots_beyond = (ground_of s.group).tasks.beyond;
+  records_beyond = (ground_of s.group).shared.beyond;
 }
 
 -- The memory of a set: the slots as they are, the flags of the slots that wait, and the wake memory beyond its part as it was.

@@ -15,8 +15,8 @@ pub record Ground (F : Type 0) : Type 0 where
   pub tasks : slots.Held F
   pub shared : wakes.Held
 
-abbrev pub ground : {F : Type 0} → TaskGroup F → Ground F
-ground t = record { tasks = slots.held t.tasks; shared = wakes.held t.shared }
+abbrev pub ground_of : {F : Type 0} → TaskGroup F → Ground F
+ground_of t = record { tasks = slots.held t.tasks; shared = wakes.held t.shared }
 
 -- A fresh group in the part from a to e of both memories.
 abbrev pub fresh_ground : {F : Type 0} → List (Slot F) → List WakeRecord → ℕ → ℕ → Ground F
@@ -33,7 +33,7 @@ with_group g h = record { tasks = slots.with_table g.tasks h.table; shared = wak
 
 -- A group whose part begins where the memory begins.
 abbrev pub FromStart : {F : Type 0} → TaskGroup F → Type 0
-FromStart t = (length (ground t).tasks.before ≡ 0) × (length (ground t).shared.before ≡ 0)
+FromStart t = (length (ground_of t).tasks.before ≡ 0) × (length (ground_of t).shared.before ≡ 0)
 
 -- Wake memory that is given back: what lies before and beyond the part is as it was, and so is its length. In the part
 -- the flags are set of just the slots that wait.

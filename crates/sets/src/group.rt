@@ -36,7 +36,7 @@ fn self_wake<'a>(shared: &mut WakerList<'a>, slot: usize, woken: bool) -> u32
 
 impl<'a, F: Copy> TaskGroup<'a, F> {
     ghost use Rattle.std.specs.Prelude.{◌-◌, ◌≤◌, ◌++◌, if◌then◌else◌, Ok, Err};
-    ghost use Rattle.sets.specs.Ground.{ground, fresh_ground, group_in, with_group, GivenBack};
+    ghost use Rattle.sets.specs.Ground.{ground_of, fresh_ground, group_in, with_group, GivenBack};
     ghost use Rattle.sets.specs.Group.{joined, found, polling, turn as turn_of, woken_at};
     ghost use Rattle.slots.specs.Table.{full, occupied_at, len as tasks_in};
 
@@ -47,7 +47,7 @@ impl<'a, F: Copy> TaskGroup<'a, F> {
         part: Part,
     ) -> TaskGroup<'a, F>
         requires { (part.start ≤ part.end) × ((part.end ≤ length slots.old) × (part.end ≤ length records.old)) }
-        ensures { ground result ≡ fresh_ground slots.old records.old part.start part.end }
+        ensures { ground_of result ≡ fresh_ground slots.old records.old part.start part.end }
     {
         let tasks = PinSlotMap::new(slots, part);
         let shared = WakerList::new(records, part);
@@ -56,8 +56,8 @@ impl<'a, F: Copy> TaskGroup<'a, F> {
 
     // Puts a task into the free head and enqueues it, or hands it back where no slot is vacant.
     pub fn try_push(&mut self, task: F) -> Result<usize, F>
-        ensures answer { result ≡ (if full (group_in (ground self.old)).table.slots then Err task else Ok (group_in (ground self.old)).table.head) }
-        ensures after { ground self.new ≡ with_group (ground self.old) (joined (group_in (ground self.old)) task) }
+        ensures answer { result ≡ (if full (group_in (ground_of self.old)).table.slots then Err task else Ok (group_in (ground_of self.old)).table.head) }
+        ensures after { ground_of self.new ≡ with_group (ground_of self.old) (joined (group_in (ground_of self.old)) task) }
     {
         let i = self.tasks.insert(task)?;
         self.shared.push(i);
@@ -66,30 +66,30 @@ impl<'a, F: Copy> TaskGroup<'a, F> {
 
     // How many tasks there are.
     pub fn len(&self) -> usize
-        ensures { result ≡ tasks_in (group_in (ground self.now)).table.slots }
+        ensures { result ≡ tasks_in (group_in (ground_of self.now)).table.slots }
     {
         self.tasks.len()
     }
 
     // How many there can be.
     pub fn capacity(&self) -> usize
-        ensures { result ≡ length (group_in (ground self.now)).table.slots }
+        ensures { result ≡ length (group_in (ground_of self.now)).table.slots }
     {
         self.tasks.capacity()
     }
 
     // Whether a task lies in that slot.
     pub fn is_occupied(&self, slot: usize) -> bool
-        ensures { result ≡ occupied_at (group_in (ground self.now)).table.slots slot }
+        ensures { result ≡ occupied_at (group_in (ground_of self.now)).table.slots slot }
     {
         self.tasks.get(slot).is_some()
     }
 
     // Wakes a slot; tells how many notices the parent was given, 0 or 1.
     pub fn wake(&mut self, slot: usize) -> u32
-        requires { slot < length (group_in (ground self.old)).table.slots }
-        ensures notices { result ≡ notice (group_in (ground self.old)).wakes slot }
-        ensures after { ground self.new ≡ with_group (ground self.old) (woken_at (group_in (ground self.old)) slot) }
+        requires { slot < length (group_in (ground_of self.old)).table.slots }
+        ensures notices { result ≡ notice (group_in (ground_of self.old)).wakes slot }
+        ensures after { ground_of self.new ≡ with_group (ground_of self.old) (woken_at (group_in (ground_of self.old)) slot) }
     {
         self.shared.wake(slot)
     }
@@ -98,8 +98,8 @@ impl<'a, F: Copy> TaskGroup<'a, F> {
     pub fn take_apart(self) -> Memory<'a, F>
         ensures slots { result.slots.now ≡ self.entry.tasks.slots.now }
         ensures records { result.records.now ≡ self.entry.shared.records.now }
-        ensures all_slots { result.slots.now ≡ (ground self.entry).tasks.before ++ ((ground self.entry).tasks.table.slots ++ (ground self.entry).tasks.beyond) }
-        ensures all_records { GivenBack (ground self.entry).shared result.records.now }
+        ensures all_slots { result.slots.now ≡ (ground_of self.entry).tasks.before ++ ((ground_of self.entry).tasks.table.slots ++ (ground_of self.entry).tasks.beyond) }
+        ensures all_records { GivenBack (ground_of self.entry).shared result.records.now }
     {
         let TaskGroup { tasks, shared } = self;
         let slots = tasks.take_apart();
@@ -109,8 +109,8 @@ impl<'a, F: Copy> TaskGroup<'a, F> {
 
     // Takes one slot from the queue, if one waits, and polls its task.
     fn turn<P: PollFn<F>>(&mut self, post: &[u64]) -> Option<Turn<P::Answer>>
-        ensures answer { result ≡ (turn_of P.PollFn.acts post.now (group_in (ground self.old))).0 }
-        ensures after { ground self.new ≡ with_group (ground self.old) (turn_of P.PollFn.acts post.now (group_in (ground self.old))).1 }
+        ensures answer { result ≡ (turn_of P.PollFn.acts post.now (group_in (ground_of self.old))).0 }
+        ensures after { ground_of self.new ≡ with_group (ground_of self.old) (turn_of P.PollFn.acts post.now (group_in (ground_of self.old))).1 }
     {
         let i = self.shared.pop()?;
         match self.tasks.poll_at::<P>(i, post) {
@@ -136,8 +136,8 @@ impl<'a, F: Copy> TaskGroup<'a, F> {
         post: &[u64],
     ) -> Polled<Option<Found<P::Answer>>>
         requires { most ≤ 61 }
-        ensures answer { result ≡ (polling P.PollFn.acts post.now most 0 0 (group_in (ground self.old))).answer }
-        ensures after { ground self.new ≡ with_group (ground self.old) (polling P.PollFn.acts post.now most 0 0 (group_in (ground self.old))).group }
+        ensures answer { result ≡ (polling P.PollFn.acts post.now most 0 0 (group_in (ground_of self.old))).answer }
+        ensures after { ground_of self.new ≡ with_group (ground_of self.old) (polling P.PollFn.acts post.now most 0 0 (group_in (ground_of self.old))).group }
     {
         let mut notices = 0;
         for turns in 0..most {
@@ -169,8 +169,8 @@ impl<'a, F: Copy> TaskGroup<'a, F> {
         &mut self,
         post: &[u64],
     ) -> Polled<Option<Found<P::Answer>>>
-        ensures answer { result ≡ (found P.PollFn.acts post.now (group_in (ground self.old))).answer }
-        ensures after { ground self.new ≡ with_group (ground self.old) (found P.PollFn.acts post.now (group_in (ground self.old))).group }
+        ensures answer { result ≡ (found P.PollFn.acts post.now (group_in (ground_of self.old))).answer }
+        ensures after { ground_of self.new ≡ with_group (ground_of self.old) (found P.PollFn.acts post.now (group_in (ground_of self.old))).group }
     {
         if self.tasks.len() == 0 {
             return Polled {
@@ -185,25 +185,25 @@ impl<'a, F: Copy> TaskGroup<'a, F> {
 }
 
 impl<'a, F: Flip + Copy> TaskGroup<'a, F> {
-    ghost use Rattle.sets.specs.Ground.{ground, group_in, with_group};
+    ghost use Rattle.sets.specs.Ground.{ground_of, group_in, with_group};
     ghost use Rattle.sets.specs.Group.{group_flipped};
 
     // Flips the index of every task.
     pub fn flip(&mut self)
-        ensures { ground self.new ≡ with_group (ground self.old) (group_flipped F.Flip.flipped (group_in (ground self.old))) }
+        ensures { ground_of self.new ≡ with_group (ground_of self.old) (group_flipped F.Flip.flipped (group_in (ground_of self.old))) }
     {
         self.tasks.flip();
     }
 }
 
 impl<'a, F: Future + Copy> TaskGroup<'a, F> {
-    ghost use Rattle.sets.specs.Ground.{ground, group_in, with_group};
+    ghost use Rattle.sets.specs.Ground.{ground_of, group_in, with_group};
     ghost use Rattle.sets.specs.Group.{polled};
 
     // Takes turns until a future is ready, and vacates its slot.
     pub fn poll_inner(&mut self, post: &[u64]) -> Polled<Option<F::Output>>
-        ensures answer { result ≡ (polled F.Future.acts post.now (group_in (ground self.old))).answer }
-        ensures after { ground self.new ≡ with_group (ground self.old) (polled F.Future.acts post.now (group_in (ground self.old))).group }
+        ensures answer { result ≡ (polled F.Future.acts post.now (group_in (ground_of self.old))).answer }
+        ensures after { ground_of self.new ≡ with_group (ground_of self.old) (polled F.Future.acts post.now (group_in (ground_of self.old))).group }
     {
         let Polled {
             poll,
