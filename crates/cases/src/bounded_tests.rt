@@ -85,7 +85,8 @@ fn lent<R, C: FnOnce(&Waker) -> R>(token: RawWaker, call: C) -> R
     answer
 }
 
-// What a token call answers, as plain values: a token is told by its numbers.
+// What a token call answers, as plain values: a token is told by its numbers. Where recordings are carried out the same
+// calls answer in their words, so these stand here too.
 fn hand(
     set: &mut FuturesUnorderedBounded<Task>,
     address: usize,

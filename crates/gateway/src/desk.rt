@@ -115,7 +115,7 @@ fn show(rt: &HostRuntime, polled: Polled<Option<Delivery>>) -> io::Result<()> {
 }
 
 impl Book {
-    // A book with nothing in it; every word of the post is 0.
+    // A book with nothing in it; every word of the post is 0. It is no Default, since a Vec is made with its allocator.
     fn new(heap: Global) -> io::Result<Book> {
         Ok(Book {
             post: vec![in heap; 0; script::PLACES]?,

@@ -41,8 +41,9 @@ where
     }
 
     fn push(&mut self, task: F, index: u64) -> Result<usize, Refused<F>> {
-        FuturesUnorderedBounded::push(self, OrderWrapper { data: task, index })
-            .map_err(|refused| refused.map(|wrapper| wrapper.data))
+        FuturesUnorderedBounded::push(self, OrderWrapper { data: task, index }).map_err(
+            |refused| refused.map(|wrapper| wrapper.data),
+        )
     }
 
     fn poll(&mut self, post: &[u64]) -> Polled<Option<OrderWrapper<F::Output>>> {

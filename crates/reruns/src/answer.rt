@@ -114,7 +114,7 @@ impl fmt::Display for Yielded {
     }
 }
 
-// A fault by its three numbers, as a recording has it.
+// A fault by its three numbers, as a recording has it. The fault's own Display is for people.
 #[derive(Drop)]
 struct Numbers(Fault);
 
