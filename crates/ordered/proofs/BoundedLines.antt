@@ -1,14 +1,15 @@
 -- The bounded set has the laws that an ordered set asks of the set below it.
 use Rattle.std.proofs.Common.{◌≡◌, ℕ, ltb, List, [], ◌∷◌, ◌++◌, map, drop, count_by, Option, sym, refl, ap, ◌∙◌, arith}
 use Rattle.ordered.proofs.Counts.{count_map}
-use Rattle.ordered.proofs.OrderedLaws.{ordered_promises, ordered_wakers, ordered_deque, ordered_indices}
+use Rattle.ordered.proofs.OrderedLaws.{ordered_promises, ordered_wakers, ordered_deque, ordered_indices, size_length}
 use Rattle.ordered.specs.Below.{Label, label, label_flipped, FlipLaws}
-use Rattle.ordered.specs.BoundedBelow.{bounded_below}
+use Rattle.ordered.specs.BoundedBelow.{bounded_below, no_ticket, index_labels, FreeChain}
 use Rattle.ordered.specs.Deques.{DequeLaw, IndexLaw}
 use Rattle.ordered.specs.OrderedSet.{OrderedPromises, heap_full, places_of}
 use Rattle.ordered.specs.OrderedSet as ordered
 use Rattle.runs.specs.Calls.{reached}
 use Rattle.runs.specs.Laws.{TicketLaws}
+
 use Rattle.runs.specs.Promises.{Promises}
 use Rattle.runs.specs.Wakers.{WakerLaws}
 use Rattle.sets.proofs.BoundedLaws.{Inv, inside, Once, token_laws, ticket_laws, wake_laws, fresh_held}
@@ -126,3 +127,24 @@ module _ {F O : Type 0} (acts : Acts F O) (bearing : F → ℕ × ℕ) (bears : 
 
   pub ordered_stand : OrderedPromises acts bearing bears
   ordered_stand = record { promises = promises_of; wakers = wakers_of; deque = deque_of; in_a_run = indices_of }
+
+-- the laws, told by indices alone
+module _ {F O : Type 0} (acts : Acts F O) where
+  pub bare_tickets : TicketLaws (kind (wrapped_acts acts)) (label no_ticket) (label no_ticket) FreeChain index_labels index_labels how_many
+  unfolding Inv inside
+  bare_tickets =
+      let t = tickets acts no_ticket no_ticket (λ f post e. refl) (λ f post x e. refl) in
+      record {
+        keeps = t.keeps;
+        inside_set = t.inside_set;
+        inside_woken = t.inside_woken;
+        inside_pushed = t.inside_pushed;
+        inside_polled = t.inside_polled;
+        none_inside = t.none_inside;
+        counts = t.counts;
+        sizes = λ s i. t.counts s i ∙ size_length (index_labels s);
+      }
+
+  pub bare_flips : FlipLaws (bounded_below acts) FreeChain index_labels
+  unfolding Inv inside
+  bare_flips = flips acts no_ticket no_ticket (λ f post e. refl) (λ f post x e. refl)

@@ -100,7 +100,7 @@ module _ {S Q F O R : Type 0} (b : Below S Q F O) (full : ℕ → ℕ → Fault)
     };
   }
 
-size_length : {X : Type 0} (xs : List X) → length xs ≡ size xs
+pub size_length : {X : Type 0} (xs : List X) → length xs ≡ size xs
 size_length [] = refl
 size_length (x ∷ xs) = ap suc (size_length xs)
 

@@ -1,7 +1,9 @@
 pub mod Below
 pub mod BoundedBelow
 pub mod Deques
+pub mod FuturesOrdered
 pub mod Lined
+pub mod LinedQueue
 pub mod Ordered
 pub mod OrderedSet
 pub mod Queue

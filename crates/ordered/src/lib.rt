@@ -2,6 +2,7 @@
 #![tactic(auto)]
 
 pub mod bounded_tasks;
+pub mod futures_ordered_bounded;
 pub mod ordered_queue;
 pub mod round;
 pub mod stands;
