@@ -50,7 +50,7 @@ impl Report<'_> {
     fn compare(
         &mut self,
         line: &Numbered,
-        call: Call<'_>,
+        call: Call,
         expected: SplitWhitespace<'_>,
         answer: Answer,
     ) -> io::Result<()> {
@@ -79,7 +79,7 @@ impl Report<'_> {
             Some(Line::Make(make)) => return Ok(Some(make)),
             Some(Line::Call(call)) => call,
         };
-        match call.and_then(|call| Ok((call, set.carry_out(call)?))) {
+        match call.and_then(|call| Ok((call, set.carry_out(call, post.as_slice())?))) {
             Ok((call, answer)) => {
                 self.tally.count_call();
                 self.compare(line, call, words, answer)?;

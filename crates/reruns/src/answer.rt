@@ -161,9 +161,9 @@ impl fmt::Display for Answer {
 }
 
 // Whether what a refused call handed back is what it was given.
-pub fn is_own(call: Call<'_>, back: Option<Input>) -> bool
-    ensures only { T result → back ≡ input_of call.entry }
-    ensures always { back ≡ input_of call.entry → T result }
+pub fn is_own(call: Call, back: Option<Input>) -> bool
+    ensures only { T result → back ≡ input_of call }
+    ensures always { back ≡ input_of call → T result }
 {
     back == call.input()
 }
