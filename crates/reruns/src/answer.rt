@@ -102,6 +102,7 @@ impl From<Refused<Waker>> for Answer {
     }
 }
 
+// The text of an answer is the format of recordings, so it is written out.
 impl fmt::Display for Yielded {
     ghost output = { λ y. Some (yielded_text y) };
 
