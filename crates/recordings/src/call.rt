@@ -16,7 +16,8 @@ pub enum Task {
     Stream(Either<Ticker, Mailbag>),
 }
 
-// A call as a recording has it, for every kind of set and merge. The post of a poll stands beside it.
+// A call as a recording has it, for every kind of set and merge. The post of a poll stands beside it, in one buffer for all
+// lines, so that no call holds on to it.
 #[derive(Clone, Copy)]
 pub enum Call {
     Push(Task),
