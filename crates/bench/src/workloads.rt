@@ -8,7 +8,8 @@ use tasks::poll::Poll;
 use wakes::wake_record::WakeRecord;
 use wakes::waker::{RawWaker, Waker};
 
-// Runs a workload on a set of that capacity, in memory that is made for it and freed again.
+// Runs a workload on a set of that capacity, in memory that is made for it and freed again. (Replay, the desk and the tests make
+// theirs alike, and differ in what they do where there is no memory, and with the fault at the end.)
 pub(crate) fn on_a_set<F: Future + Copy, R, W: FnOnce(&mut FuturesUnorderedBounded<'_, F>) -> R>(
     heap: Global,
     capacity: u32,
@@ -21,7 +22,9 @@ pub(crate) fn on_a_set<F: Future + Copy, R, W: FnOnce(&mut FuturesUnorderedBound
     let mut slots: Vec<Slot<F>> = vec![in heap; Slot::NextFree(0); capacity as usize]?;
     let mut set = FuturesUnorderedBounded::new(1, slots.as_mut_slice(), records.as_mut_slice());
     let answer = workload(&mut set);
-    let _ = set.abandon();
+    let _ = set
+        .take_apart()
+        .unwrap_or_else(|refused| refused.input.abandon());
     Ok(answer)
 }
 
@@ -34,7 +37,7 @@ fn ready(number: u32) -> Countdown {
     }
 }
 
-// The number of the ticket that a poll yields, or 0.
+// The number of the ticket that a poll yields, or 0: it is added to a checksum.
 fn yielded(set: &mut FuturesUnorderedBounded<Countdown>) -> u64 {
     match set.poll(&[]).poll {
         Poll::Ready(Some((_, number))) => number as u64,

@@ -43,7 +43,8 @@ struct Book {
 }
 
 // The desk: the set of the orders, and its book. The set has to be taken apart at the end.
-struct Desk<'a> {
+struct Desk<'r, 'a> {
+    rt: &'r HostRuntime,
     set: Orders<'a>,
     book: Book,
 }
@@ -127,20 +128,19 @@ impl Book {
     }
 }
 
-impl Desk<'_> {
+impl Desk<'_, '_> {
     // Spends the token of an order, and wakes nothing.
-    fn drop_token(&mut self, rt: &HostRuntime, raw: RawWaker) -> io::Result<()>
+    fn drop_token(&mut self, raw: RawWaker) -> io::Result<()>
         ensures set { set_of self.new.set ≡ (step letter_acts (set_of self.old.set) (DropCall (record { name = raw.name; address = raw.address }))).0 }
         ensures book { self.new.book ≡ self.old.book }
     {
-        match self.set.drop(Waker::from_raw(raw)) {
-            Ok(()) => Ok(()),
-            Err(refused) => given_back(rt, refused),
-        }
+        self.set
+            .drop(Waker::from_raw(raw))
+            .or_else(|refused| given_back(self.rt, refused))
     }
 
     // Hands out the token of a new order, and keeps its two numbers.
-    fn keep_token(&mut self, rt: &HostRuntime, letter: Letter, address: usize) -> io::Result<()>
+    fn keep_token(&mut self, letter: Letter, address: usize) -> io::Result<()>
         ensures { OnOk result ((set_of self.new.set).out + vec_len self.old.book.waiting ≡ (set_of self.old.set).out + vec_len self.new.book.waiting) }
     {
         match self.set.hand(address) {
@@ -150,23 +150,23 @@ impl Desk<'_> {
                 Ok(())
             }
             Err(Refused { fault, .. }) => {
-                println!(rt; "no token for address {address}: {fault}")
+                println!(self.rt; "no token for address {address}: {fault}")
             }
         }
     }
 
     // Puts an order into the set, or says why it was refused.
-    fn order(&mut self, rt: &HostRuntime, letter: Letter) -> io::Result<()> {
+    fn order(&mut self, letter: Letter) -> io::Result<()> {
         let (client, number) = letter.ticket;
         match self.set.push(letter) {
             Ok(address) => {
                 self.book.accepted = self.book.accepted.saturating_add(1);
-                println!(rt; "order {client}/{number} accepted at {address}")?;
-                self.keep_token(rt, letter, address)
+                println!(self.rt; "order {client}/{number} accepted at {address}")?;
+                self.keep_token(letter, address)
             }
             Err(Refused { fault, input }) => {
                 let (owner, own_number) = input.ticket;
-                println!(rt;
+                println!(self.rt;
                     "order {client}/{number} refused: {fault}; ticket {owner}/{own_number} handed back"
                 )
             }
@@ -174,7 +174,7 @@ impl Desk<'_> {
     }
 
     // The reply arrives in the post, and wakes the orders that wait for it.
-    fn reply(&mut self, rt: &HostRuntime, place: u64, word: u64) -> io::Result<()> {
+    fn reply(&mut self, place: u64, word: u64) -> io::Result<()> {
         put(&mut self.book.post, place, word);
         let waited = self.book.waiting.len();
         while let Some(order) = take_at(&mut self.book.waiting, place) {
@@ -182,21 +182,21 @@ impl Desk<'_> {
             let address = token.address();
             match self.set.wake(token) {
                 Ok(notice) => {
-                    println!(rt;
+                    println!(self.rt;
                         "reply at {place}: word {word}; woke address {address}, notice {notice}"
                     )?;
                 }
-                Err(refused) => given_back(rt, refused)?,
+                Err(refused) => given_back(self.rt, refused)?,
             }
         }
         if self.book.waiting.len() == waited {
-            println!(rt; "reply at {place}: word {word}; nobody waits")?;
+            println!(self.rt; "reply at {place}: word {word}; nobody waits")?;
         }
         Ok(())
     }
 
     // Counts an order that was yielded, and drops its token where no reply spent it.
-    fn settle(&mut self, rt: &HostRuntime, delivery: Delivery) -> io::Result<()> {
+    fn settle(&mut self, delivery: Delivery) -> io::Result<()> {
         if delivery.word == script::NO_ANSWER {
             self.book.unanswered = self.book.unanswered.saturating_add(1);
         } else {
@@ -204,29 +204,29 @@ impl Desk<'_> {
         }
         let post = self.book.post.as_slice();
         if let Some(order) = take_yielded(&mut self.book.waiting, post, delivery) {
-            self.drop_token(rt, order.raw)?;
+            self.drop_token(order.raw)?;
         }
         Ok(())
     }
 
     // One poll of the set with the post.
-    fn poll(&mut self, rt: &HostRuntime) -> io::Result<Polled<Option<Delivery>>> {
+    fn poll(&mut self) -> io::Result<Polled<Option<Delivery>>> {
         let polled = self.set.poll(self.book.post.as_slice());
-        show(rt, polled)?;
+        show(self.rt, polled)?;
         if let Poll::Ready(Some(delivery)) = polled.poll {
-            self.settle(rt, delivery)?;
+            self.settle(delivery)?;
         }
         Ok(polled)
     }
 
     // Prints how many orders the set holds.
-    fn held(&self, rt: &HostRuntime) -> io::Result<()> {
-        println!(rt; "held {} of {}", self.set.len(), self.set.capacity())
+    fn held(&self) -> io::Result<()> {
+        println!(self.rt; "held {} of {}", self.set.len(), self.set.capacity())
     }
 
     // Nobody would wake the orders that still wait, and their words are still 0: the desk answers for them, and wakes
     // them.
-    fn give_up(&mut self, rt: &HostRuntime) -> io::Result<()> {
+    fn give_up(&mut self) -> io::Result<()> {
         self.book.waiting.reverse();
         while let Some(order) = self.book.waiting.pop() {
             let Letter {
@@ -234,25 +234,25 @@ impl Desk<'_> {
                 place,
             } = order.letter;
             put(&mut self.book.post, place, script::NO_ANSWER);
-            println!(rt; "closing: order {client}/{number} unanswered at place {place}")?;
+            println!(self.rt; "closing: order {client}/{number} unanswered at place {place}")?;
             if let Err(refused) = self.set.wake(Waker::from_raw(order.raw)) {
-                given_back(rt, refused)?;
+                given_back(self.rt, refused)?;
             }
         }
         Ok(())
     }
 
     // The end of the day: polls until no order is held.
-    fn close(&mut self, rt: &HostRuntime) -> io::Result<()> {
+    fn close(&mut self) -> io::Result<()> {
         for _ in 0..MOST_POLLS {
-            let polled = self.poll(rt)?;
+            let polled = self.poll()?;
             match polled.poll {
                 Poll::Ready(None) => break,
-                Poll::Pending if polled.notices == 0 => self.give_up(rt)?,
+                Poll::Pending if polled.notices == 0 => self.give_up()?,
                 Poll::Ready(Some(_)) | Poll::Pending => {}
             }
         }
-        println!(rt;
+        println!(self.rt;
             "accepted {}, answered {}, unanswered {}, held {}",
             self.book.accepted,
             self.book.answered,
@@ -262,42 +262,43 @@ impl Desk<'_> {
     }
 
     // Drops the tokens that are still kept, and asks whether the set may be taken apart.
-    fn drop_tokens(&mut self, rt: &HostRuntime) -> io::Result<()> {
+    fn drop_tokens(&mut self) -> io::Result<()> {
         while let Some(order) = self.book.waiting.pop() {
-            self.drop_token(rt, order.raw)?;
+            self.drop_token(order.raw)?;
         }
         if let Err(fault) = self.set.may_end() {
-            println!(rt; "the set may not end: {fault}")?;
+            println!(self.rt; "the set may not end: {fault}")?;
         }
         Ok(())
     }
 
     // The day's commands, and then the end of the day.
-    fn day(&mut self, rt: &HostRuntime, lines: &[String], done: usize) -> io::Result<()> {
+    fn day(&mut self, lines: &[String], done: usize) -> io::Result<()> {
         for (at, line) in lines.iter().enumerate().skip(done) {
             let text = line.as_str();
             if script::is_silent(text) {
                 continue;
             }
             match script::parse(text) {
-                Some(Command::Order(letter)) => self.order(rt, letter)?,
-                Some(Command::Reply { place, word }) => self.reply(rt, place, word)?,
+                Some(Command::Order(letter)) => self.order(letter)?,
+                Some(Command::Reply { place, word }) => self.reply(place, word)?,
                 Some(Command::Poll) => {
-                    self.poll(rt)?;
+                    self.poll()?;
                 }
-                Some(Command::Held) => self.held(rt)?,
+                Some(Command::Held) => self.held()?,
                 Some(Command::End) => break,
                 Some(Command::Open { .. }) | None => {
-                    println!(rt; "line {}: cannot be read: {text}", at.saturating_add(1))?;
+                    println!(self.rt; "line {}: cannot be read: {text}", at.saturating_add(1))?;
                 }
             }
         }
-        self.close(rt)?;
-        self.drop_tokens(rt)
+        self.close()?;
+        self.drop_tokens()
     }
 }
 
-// The lines of the script. One that is not UTF-8 is kept as a line that cannot be read.
+// The lines of the script. One that is not UTF-8 is kept as a line that cannot be read. (The player of recordings does so line
+// by line; no crate below both has to do with input.)
 fn read(rt: &HostRuntime) -> io::Result<Vec<String>> {
     let heap = rt.alloc();
     let mut lines = Vec::new(heap);
@@ -344,9 +345,13 @@ pub fn run(rt: &HostRuntime) -> io::Result<()> {
         slots.as_mut_slice(),
         records.as_mut_slice(),
     );
-    let mut desk = Desk { set, book };
-    let outcome = desk.day(rt, lines.as_slice(), opening.lines);
-    let Desk { set, book: _ } = desk;
+    let mut desk = Desk { rt, set, book };
+    let outcome = desk.day(lines.as_slice(), opening.lines);
+    let Desk {
+        rt: _,
+        set,
+        book: _,
+    } = desk;
     match set.take_apart() {
         Ok(_) => println!(rt; "set taken apart")?,
         Err(Refused { fault, input }) => {

@@ -10,7 +10,7 @@ pub const PLACES: usize = 64;
 // Every waiting order has a token out, and a set has at most that many.
 const MOST_SLOTS: u64 = 65535;
 
-// What the desk posts itself where no reply came. No reply can be this word.
+// What the desk posts itself where no reply came. By the rules of the script no reply can be this word.
 pub const NO_ANSWER: u64 = u64::MAX;
 
 #[derive(Clone, Copy)]

@@ -10,7 +10,7 @@ abbrev pub input_of : Call → Option Input
 input_of (call.Push t) = Some (input.Task t)
 input_of (call.PushBack t) = Some (input.Task t)
 input_of (call.PushFront t) = Some (input.Task t)
-input_of (call.Poll post) = None
+input_of call.Poll = None
 input_of (call.Hand a) = Some (input.Address a)
 input_of (call.Clone t) = None
 input_of (call.Wake t) = Some (input.Token t)

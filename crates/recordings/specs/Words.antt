@@ -50,7 +50,7 @@ abbrev pub call_name : Call → List ℕ
 call_name (Push t) = codes "push"
 call_name (PushBack t) = codes "push-back"
 call_name (PushFront t) = codes "push-front"
-call_name (Poll post) = codes "poll"
+call_name Poll = codes "poll"
 call_name (Hand a) = codes "hand"
 call_name (Clone t) = codes "clone"
 call_name (Wake t) = codes "wake"

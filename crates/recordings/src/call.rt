@@ -16,13 +16,14 @@ pub enum Task {
     Stream(Either<Ticker, Mailbag>),
 }
 
-// A call as a recording has it, for every kind of set and merge.
+// A call as a recording has it, for every kind of set and merge. The post of a poll stands beside it, in one buffer for all
+// lines, so that no call holds on to it.
 #[derive(Clone, Copy)]
-pub enum Call<'p> {
+pub enum Call {
     Push(Task),
     PushBack(Task),
     PushFront(Task),
-    Poll(&'p [u64]),
+    Poll,
     Hand(usize),
     Clone(RawWaker),
     Wake(RawWaker),
@@ -41,10 +42,10 @@ pub enum Input {
     Token(RawWaker),
 }
 
-impl Call<'_> {
+impl Call {
     // A token that is only lent stays with the caller.
     pub fn input(self) -> Option<Input>
-        ensures { result ≡ input_of self.entry }
+        ensures { result ≡ input_of self }
     {
         match self {
             Call::Push(task) | Call::PushBack(task) | Call::PushFront(task) => {
@@ -52,7 +53,7 @@ impl Call<'_> {
             }
             Call::Hand(address) => Some(Input::Address(address)),
             Call::Wake(token) | Call::Drop(token) => Some(Input::Token(token)),
-            Call::Poll(_)
+            Call::Poll
             | Call::Clone(_)
             | Call::WakeByRef(_)
             | Call::MayEnd

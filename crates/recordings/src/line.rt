@@ -17,9 +17,9 @@ use wakes::waker::RawWaker;
 
 // What a line says, or why it cannot be read.
 #[derive(Clone, Copy)]
-pub enum Line<'p> {
+pub enum Line {
     Make(Result<Make, Reason>),
-    Call(Result<Call<'p>, Reason>),
+    Call(Result<Call, Reason>),
 }
 
 // The task of that name.
@@ -55,7 +55,7 @@ fn read_task(words: &mut SplitWhitespace<'_>) -> Result<Task, Reason> {
 }
 
 // The call behind its first word, but a poll.
-fn other_call<'p>(first: &str, words: &mut SplitWhitespace<'_>) -> Result<Call<'p>, Reason>
+fn other_call(first: &str, words: &mut SplitWhitespace<'_>) -> Result<Call, Reason>
     ensures { IfOk result (λ c. first.now ≡ call_name c) }
 {
     match first {
@@ -75,16 +75,16 @@ fn other_call<'p>(first: &str, words: &mut SplitWhitespace<'_>) -> Result<Call<'
 }
 
 // The call behind its first word. The post of a poll goes into `post`.
-fn read_call<'p>(
+fn read_call(
     first: &str,
     words: &mut SplitWhitespace<'_>,
-    post: &'p mut Vec<u64>,
-) -> Result<Call<'p>, Reason>
+    post: &mut Vec<u64>,
+) -> Result<Call, Reason>
     ensures { IfOk result (λ c. first.now ≡ call_name c) }
 {
     if first == "poll" {
         words::read_post(words, post)?;
-        return Ok(Call::Poll(post.as_slice()));
+        return Ok(Call::Poll);
     }
     let call = other_call(first, words)?;
     words::arrow(words)?;
@@ -93,7 +93,7 @@ fn read_call<'p>(
 
 // Reads the words of a line; a blank line and a comment say nothing. Where it is a call that can be read, the words
 // that are left are the answer.
-pub fn read<'p>(words: &mut SplitWhitespace<'_>, post: &'p mut Vec<u64>) -> Option<Line<'p>> {
+pub fn read(words: &mut SplitWhitespace<'_>, post: &mut Vec<u64>) -> Option<Line> {
     match words.next()? {
         "make" => Some(Line::Make(make::read_make(words))),
         first if first.starts_with('#') => None,

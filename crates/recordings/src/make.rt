@@ -81,6 +81,7 @@ impl FromStr for Kind {
     }
 }
 
+// The names stand in both directions; one table for both would have to be searched.
 impl fmt::Display for Kind {
     ghost output = { λ k. Some (kind_name k) };
 

@@ -43,6 +43,7 @@ impl<B: BufRead + Drop> Iterator for Input<B> {
             }
             line => line,
         };
+        // by hand, since `enumerate` would ask for a bound on the input
         self.read = self.read.saturating_add(1);
         let number = self.read;
         Some(line.map(|text| Numbered { number, text }))

@@ -21,7 +21,8 @@ const KINDS: [Kind; 6] = [
     Kind::GrowingMerge,
 ];
 
-// Of the runs that were skipped there is a count for each kind.
+// Of the runs that were skipped there is a count for each kind, in an array by kind: a map would have to be allocated, and
+// that can fail where a run is counted.
 #[derive(Clone, Copy, Default)]
 pub struct Tally {
     runs: u64,

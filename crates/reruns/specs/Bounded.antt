@@ -1,5 +1,5 @@
 -- Recorded calls on a bounded unordered set, by its definition.
-use Rattle.std.specs.Prelude.{Some, None, Ok, Err, Option, Result}
+use Rattle.std.specs.Prelude.{ℕ, List, Some, None, Ok, Err, Option, Result}
 use Rattle.reruns.specs.Answers.{Output, token_of, recorded}
 use Rattle.reruns.specs.declared.answer.Answer.{Answer}
 use Rattle.recordings.specs.declared.call.Call.{Call}
@@ -24,20 +24,20 @@ abbrev pub acts : Acts Futures Output
 acts = either_acts countdown_acts letter_acts
 
 -- The definition's call, where a bounded unordered set has the recorded one.
-abbrev pub bounded_call : Call → Option (runs.Call Futures Question)
-bounded_call (call.Push (task.Future f)) = Some (push f)
-bounded_call (call.Push (task.Stream s)) = None
-bounded_call (call.PushBack t) = None
-bounded_call (call.PushFront t) = None
-bounded_call (call.Poll post) = Some (poll post.now)
-bounded_call (call.Hand a) = Some (hand a)
-bounded_call (call.Clone t) = Some (clone (token_of t))
-bounded_call (call.Wake t) = Some (wake (token_of t))
-bounded_call (call.WakeByRef t) = Some (wake_by_ref (token_of t))
-bounded_call (call.Drop t) = Some (drop (token_of t))
-bounded_call call.MayEnd = Some may_end
-bounded_call call.Len = Some (ask how_many)
-bounded_call call.Capacity = Some (ask how_many_can_be)
+abbrev pub bounded_call : Call → List ℕ → Option (runs.Call Futures Question)
+bounded_call (call.Push (task.Future f)) post = Some (push f)
+bounded_call (call.Push (task.Stream s)) post = None
+bounded_call (call.PushBack t) post = None
+bounded_call (call.PushFront t) post = None
+bounded_call call.Poll post = Some (poll post)
+bounded_call (call.Hand a) post = Some (hand a)
+bounded_call (call.Clone t) post = Some (clone (token_of t))
+bounded_call (call.Wake t) post = Some (wake (token_of t))
+bounded_call (call.WakeByRef t) post = Some (wake_by_ref (token_of t))
+bounded_call (call.Drop t) post = Some (drop (token_of t))
+bounded_call call.MayEnd post = Some may_end
+bounded_call call.Len post = Some (ask how_many)
+bounded_call call.Capacity post = Some (ask how_many_can_be)
 
 -- The recorded answer of a step, and the set after it. Where there is no such call, the set stays as it was.
 abbrev pub answer_of : Bounded Futures → runs.Call Futures Question → Answer
@@ -54,8 +54,8 @@ abbrev pub after_if : Bounded Futures → Option (runs.Call Futures Question) �
 after_if s (Some c) = after s c
 after_if s None = s
 
-abbrev pub bounded_answer : Bounded Futures → Call → Result Answer Reason
-bounded_answer s c = answer_if s (bounded_call c)
+abbrev pub bounded_answer : Bounded Futures → Call → List ℕ → Result Answer Reason
+bounded_answer s c post = answer_if s (bounded_call c post)
 
-abbrev pub bounded_after : Bounded Futures → Call → Bounded Futures
-bounded_after s c = after_if s (bounded_call c)
+abbrev pub bounded_after : Bounded Futures → Call → List ℕ → Bounded Futures
+bounded_after s c post = after_if s (bounded_call c post)

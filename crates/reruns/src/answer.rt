@@ -102,6 +102,7 @@ impl From<Refused<Waker>> for Answer {
     }
 }
 
+// The text of an answer is the format of recordings, so it is written out.
 impl fmt::Display for Yielded {
     ghost output = { λ y. Some (yielded_text y) };
 
@@ -161,9 +162,9 @@ impl fmt::Display for Answer {
 }
 
 // Whether what a refused call handed back is what it was given.
-pub fn is_own(call: Call<'_>, back: Option<Input>) -> bool
-    ensures only { T result → back ≡ input_of call.entry }
-    ensures always { back ≡ input_of call.entry → T result }
+pub fn is_own(call: Call, back: Option<Input>) -> bool
+    ensures only { T result → back ≡ input_of call }
+    ensures always { back ≡ input_of call → T result }
 {
     back == call.input()
 }

@@ -40,14 +40,14 @@ fn wake_by_ref(set: &mut BoundedSet<'_>, raw: RawWaker) -> Answer
 }
 
 impl Recorded for FuturesUnorderedBounded<'_, Either<Countdown, Letter>> {
-    ghost answers = { λ s c. bounded_answer (set_of s) c };
+    ghost answers = { λ s c post. bounded_answer (set_of s) c post };
 
-    ghost leaves = { λ s c t. set_of t ≡ bounded_after (set_of s) c };
+    ghost leaves = { λ s c post t. set_of t ≡ bounded_after (set_of s) c post };
 
-    fn carry_out(&mut self, call: Call<'_>) -> Result<Answer, Reason> {
+    fn carry_out(&mut self, call: Call, post: &[u64]) -> Result<Answer, Reason> {
         let answer = match call {
             Call::Push(Task::Future(task)) => self.push(task).map_or_else(Answer::from, Answer::At),
-            Call::Poll(post) => Answer::from(self.poll(post)),
+            Call::Poll => Answer::from(self.poll(post)),
             Call::Hand(address) => self.hand(address).map_or_else(Answer::from, Answer::from),
             Call::Clone(raw) => clone(self, raw),
             Call::Wake(raw) => self

@@ -6,7 +6,7 @@ use crate::answer::Answer;
 use recordings::call::Call;
 use recordings::reason::Reason;
 
-// A set or a merge on which recorded calls are carried out.
+// A set or a merge on which recorded calls are carried out. The post is that of a poll.
 pub trait Recorded {
     // what a call answers
     ghost answers: { Answering Self };
@@ -14,10 +14,10 @@ pub trait Recorded {
     // whether the second is the set after the call
     ghost leaves: { Leaving Self };
 
-    fn carry_out(&mut self, call: Call<'_>) -> Result<Answer, Reason>
-        ensures answer { result ≡ answers self.old call.entry }
-        ensures after { leaves self.old call.entry self.new }
-        ensures own { GivesBack call.entry result };
+    fn carry_out(&mut self, call: Call, post: &[u64]) -> Result<Answer, Reason>
+        ensures answer { result ≡ answers self.old call post.now }
+        ensures after { leaves self.old call post.now self.new }
+        ensures own { GivesBack call result };
 }
 
 // There is no set: none was made yet, or it could not be made.
@@ -25,11 +25,11 @@ pub trait Recorded {
 pub struct NoSet;
 
 impl Recorded for NoSet {
-    ghost answers = { λ _ _. Err NoSetReason };
+    ghost answers = { λ _ _ _. Err NoSetReason };
 
-    ghost leaves = { λ _ _ _. Unit {0} };
+    ghost leaves = { λ _ _ _ _. Unit {0} };
 
-    fn carry_out(&mut self, call: Call<'_>) -> Result<Answer, Reason> {
+    fn carry_out(&mut self, call: Call, post: &[u64]) -> Result<Answer, Reason> {
         Err(Reason::NoSet)
     }
 }

@@ -166,7 +166,7 @@ impl<'a, F: Future + Copy> FuturesUnorderedBounded<'a, F> {
         Err(Fault::TokensOut { count: self.tokens })
     }
 
-    // Gives the memory back, or the set itself while tokens are out.
+    // Gives the memory back, or the set itself while tokens are out. Both arms move the set, so no `map_err` will do.
     pub fn take_apart(self) -> Result<Memory<'a, F>, Refused<FuturesUnorderedBounded<'a, F>>>
         ensures { TakenApart (set_of self.entry) result }
     {
@@ -210,7 +210,7 @@ impl<'a, F: Future + Copy> FuturesUnorderedBounded<'a, F> {
         }))
     }
 
-    // Takes a token back and answers its address, or hands the token back where the set does not take it.
+    // Takes a token back and answers its address, or hands the token back where the set does not take it. Both arms move it.
     fn spend(&mut self, token: Waker) -> Result<usize, Refused<Waker>>
         ensures answer { result ≡ answers (spend_fault tokened (set_of self.old) token) token token.address }
         ensures after { set_of self.new ≡ leaves (spend_fault tokened (set_of self.old) token) (set_of self.old) (one_less tokened (set_of self.old)) }

@@ -200,7 +200,7 @@ impl<'a, F: Future + Copy> TaskGroup<'a, F> {
     ghost use Rattle.sets.specs.Ground.{ground_of, group_in, with_group};
     ghost use Rattle.sets.specs.Group.{polled};
 
-    // Takes turns until a future is ready, and vacates its slot.
+    // Takes turns until a future is ready, and vacates its slot. A closure that vacates would hide that from the proof.
     pub fn poll_inner(&mut self, post: &[u64]) -> Polled<Option<F::Output>>
         ensures answer { result ≡ (polled F.Future.acts post.now (group_in (ground_of self.old))).answer }
         ensures after { ground_of self.new ≡ with_group (ground_of self.old) (polled F.Future.acts post.now (group_in (ground_of self.old))).group }

@@ -33,7 +33,7 @@ impl<F: Future> PollFn<F> for ByFuture {
     }
 }
 
-// A stream is polled through Stream.
+// A stream is polled through Stream. Merges, which are to come, poll their groups so.
 #[derive(Clone, Copy)]
 pub struct ByStream;
 
