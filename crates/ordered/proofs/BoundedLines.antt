@@ -1,5 +1,5 @@
 -- The bounded set has the laws that an ordered set asks of the set below it.
-use Rattle.std.proofs.Common.{◌≡◌, ℕ, ltb, List, [], ◌∷◌, ◌++◌, map, drop, count_by, Option, sym, refl, ap, ◌∙◌, arith}
+use Rattle.std.proofs.Common.{◌≡◌, ℕ, ltb, List, [], ◌∷◌, ◌++◌, map, drop, count_by, Option, sym, refl, ap, ◌∙◌, subst, arith}
 use Rattle.ordered.proofs.Counts.{count_map}
 use Rattle.ordered.proofs.OrderedLaws.{ordered_promises, ordered_wakers, ordered_deque, ordered_indices, size_length}
 use Rattle.ordered.specs.Below.{Label, label, label_flipped, FlipLaws}
@@ -127,6 +127,20 @@ module _ {F O : Type 0} (acts : Acts F O) (bearing : F → ℕ × ℕ) (bears : 
 
   pub ordered_stand : OrderedPromises acts bearing bears
   ordered_stand = record { promises = promises_of; wakers = wakers_of; deque = deque_of; in_a_run = indices_of }
+
+  -- of every set that is as it was made
+  module _ (s : ordered.Line F O) (name : ℕ) (slots : List (Slot (OrderWrapper F))) (records : List WakeRecord) (parking : List (Option (OrderWrapper O))) (fresh : s ≡ ordered.made name slots records parking) where
+    pub promises_at : Promises (ordered.step acts) s (λ p. bearing p.task) bears ordered.elements how_many
+    promises_at = subst (λ x. Promises (ordered.step acts) x (λ p. bearing p.task) bears ordered.elements how_many) (sym fresh) (promises_of name slots records parking)
+
+    pub wakers_at : WakerLaws (ordered.step acts) s ordered.queued how_many
+    wakers_at = subst (λ x. WakerLaws (ordered.step acts) x ordered.queued how_many) (sym fresh) (wakers_of name slots records parking)
+
+    pub deque_at : DequeLaw (ordered.step acts) s bearing bears
+    deque_at = subst (λ x. DequeLaw (ordered.step acts) x bearing bears) (sym fresh) (deque_of name slots records parking)
+
+    pub indices_at : IndexLaw (ordered.step acts) s ordered.indices (ordered.len acts) (λ t. t.incoming) (λ t. t.outgoing)
+    indices_at = subst (λ x. IndexLaw (ordered.step acts) x ordered.indices (ordered.len acts) (λ t. t.incoming) (λ t. t.outgoing)) (sym fresh) (indices_of name slots records parking)
 
 -- the laws, told by indices alone
 module _ {F O : Type 0} (acts : Acts F O) where

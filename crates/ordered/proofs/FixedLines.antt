@@ -1,22 +1,31 @@
 -- What an ordered queue over a bounded set keeps, told by indices alone, and what its calls ask for say the same.
-use Rattle.std.proofs.Common.{◌≡◌, ℕ, zero, suc, ◌+◌, ◌%◌, ◌^◌, ◌<◌, ◌≤◌, Bool, true, List, [], ◌∷◌, map, length, count_by, sym, refl, ap, ◌∙◌, subst, arith}
+use Rattle.std.proofs.Common.{◌≡◌, ℕ, zero, suc, ◌+◌, ◌%◌, ◌^◌, ◌<◌, ◌≤◌, Bool, true, List, [], ◌∷◌, map, length, take, drop, count_by, Option, sym, refl, ap, ◌∙◌, subst, arith}
 use Rattle.ordered.proofs.BoundedLines.{bare_tickets, bare_flips}
 use Rattle.ordered.proofs.Counts.{one_if, count_cons, count_map}
+use Rattle.ordered.proofs.Queues.{length_ascending}
 use Rattle.ordered.proofs.Rows.{length_numbered}
+use Rattle.ordered.specs.Ordered.{ascending}
+use Rattle.parking.specs.HeldPairs.{held_pairs}
+use Rattle.parking.specs.Places.{entries_in}
+use Rattle.parking.specs.declared.index_heap.IndexHeap.{IndexHeap}
 use Rattle.ordered.specs.Below.{Label, label, FlipLaws}
 use Rattle.ordered.specs.BoundedBelow.{bounded_below, no_ticket, index_labels, FreeChain}
 use Rattle.ordered.specs.FuturesOrdered.{ordered_of}
 use Rattle.ordered.specs.Lined.{Lined, numbered}
 use Rattle.ordered.specs.LinedQueue.{blank, size, Even, Ends, Wraps, Placed}
-use Rattle.ordered.specs.OrderedSet.{Line}
+use Rattle.ordered.specs.OrderedSet.{Line, made}
 use Rattle.ordered.specs.Queue.{Kept}
 use Rattle.ordered.specs.declared.futures_ordered_bounded.FuturesOrderedBounded.{FuturesOrderedBounded}
 use Rattle.parking.specs.declared.rank.Rank.{Ghosts as Rank}
 use Rattle.runs.proofs.TicketRuns.{count_all}
 use Rattle.runs.specs.Laws.{TicketLaws}
-use Rattle.sets.proofs.BoundedLaws.{Inv, inside}
-use Rattle.sets.specs.Bounded.{Bounded, kind, elements, how_many}
-use Rattle.std.proofs.lemmas.List.{length-map}
+use Rattle.sets.proofs.BoundedLaws.{fresh_held}
+use Rattle.sets.specs.Bounded.{elements, capacity_of}
+use Rattle.slots.proofs.Chained.{fresh_len}
+use Rattle.slots.specs.Table.{fresh_slots}
+use Rattle.slots.specs.declared.slot.Slot.{Slot}
+use Rattle.wakes.specs.declared.wake_record.WakeRecord.{WakeRecord}
+use Rattle.std.proofs.lemmas.List.{length-map, length-drop, length-take-le}
 use Rattle.tasks.specs.Acts.{Acts}
 use Rattle.tasks.specs.Kinds.{wrapped_acts}
 use Rattle.tasks.specs.Orders.{index_raised}
@@ -100,3 +109,36 @@ module _ {F O : Type 0} (acts : Acts F O) where
 module _ {F O : Type 0} {future : Future F O} {task : Ticketed F} {output : Ticketed O} {rank : Rank (OrderWrapper O)} (acts : Acts F O) where
   pub sound_of : (s : FuturesOrderedBounded F O future task output rank) → Line_kept acts (ordered_of s)
   sound_of s = kept_of acts (ordered_of s) s.queue.in_progress_queue.group.tasks.free_chained s.even s.ends s.placed s.wraps s.queue.queued_outputs.heap.cut
+
+-- a fresh line
+module _ {F O : Type 0} where
+  abbrev Lines : Line F O → Type 0
+  Lines s = Even s × Ends s × Wraps s × Placed s
+
+  made_line : (name : ℕ) (slots : List (Slot (OrderWrapper F))) (records : List WakeRecord) (parking : List (Option (OrderWrapper O))) → Lines (made name slots records parking)
+  made_line name slots records parking =
+      let s : Line F O = made name slots records parking in
+      let none : elements s.below ≡ [] = fresh_held (fresh_slots (capacity_of slots records)) (fresh_len (OrderWrapper F) (capacity_of slots records)) in
+      let nil : size s ≡ 0 = let e = ap (λ ws. length ws) none in omega (arith, e) in
+      (
+        λ test. subst (λ ws. count_by test (map (label no_ticket) ws) + 0 ≡ count_by test (numbered 0 (blank (length ws + 0)))) (sym none) refl,
+        omega (arith, nil),
+        omega arith,
+        omega (arith, nil),
+      )
+
+  pub fresh_line : (s : Line F O) (name : ℕ) (slots : List (Slot (OrderWrapper F))) (records : List WakeRecord) (parking : List (Option (OrderWrapper O))) → s ≡ made name slots records parking → Lines s
+  fresh_line s name slots records parking is = subst Lines (sym is) (made_line name slots records parking)
+
+-- the memory of a heap, where its places end and what they hold
+module _ {O : Type 0} {rank : Rank (OrderWrapper O)} (h : IndexHeap O rank) where
+  pub long_memory : length h.heap.memory.now ≡ (held_pairs h).places + length (held_pairs h).beyond
+  long_memory = omega (arith, h.heap.within, length-drop h.heap.places h.heap.memory.now)
+
+  used_long : length (ascending (held_pairs h).bag) ≡ h.heap.count
+  used_long =
+      let filled : length (held_pairs h).bag ≡ length (take h.heap.count h.heap.memory.now) = h.heap.holding in
+      omega (arith, length_ascending (held_pairs h).bag, filled, length-take-le h.heap.count h.heap.memory.now (omega (arith, h.heap.few, h.heap.within)))
+
+  pub parked_memory : ascending (entries_in (take (length (ascending (held_pairs h).bag)) h.heap.memory.now)) ≡ ascending (held_pairs h).bag
+  parked_memory = ap (λ n. ascending (entries_in (take n h.heap.memory.now))) used_long

@@ -1,6 +1,7 @@
 ghost use Rattle.ordered.specs.LinedQueue.{line_in, Even, Ends, Wraps, Placed};
 
-use crate::ordered_queue::OrderedQueue;
+use crate::ordered_memory::OrderedMemory;
+use crate::ordered_queue::{OrderedQueue, Parts};
 use parking::index_heap::IndexHeap;
 use parking::rank::Rank;
 use sets::futures_unordered_bounded::FuturesUnorderedBounded;
@@ -30,15 +31,33 @@ where
     F::Output: Copy,
 {
     ghost use Rattle.std.specs.Prelude.{◌≡◌};
-    ghost use Rattle.ordered.specs.FuturesOrdered.{ordered_of, pushing};
+    ghost use Rattle.ordered.specs.FuturesOrdered.{ordered_of, pushing, MemoryOf, TakenApart};
     ghost use Rattle.ordered.specs.Ordered.{back, front};
-    ghost use Rattle.ordered.specs.OrderedSet.{made, step};
+    ghost use Rattle.ordered.specs.Deques.{DequeLaw, IndexLaw};
+    ghost use Rattle.ordered.specs.OrderedSet.{made, step, elements, indices, queued, len as len_of};
+    ghost use Rattle.runs.specs.Promises.{Promises};
+    ghost use Rattle.runs.specs.Wakers.{WakerLaws};
     ghost use Rattle.runs.specs.Calls.{push as Push, poll as PollCall, hand as Hand, clone as CloneCall, wake as Wake, wake_by_ref as WakeByRef, drop as DropCall, may_end as MayEnd, ask};
     ghost use Rattle.sets.specs.Bounded.{how_many, how_many_can_be};
 
     // An empty set of that name. Its capacity is the lesser of the memories of slots and records, and at most 65,536; it has
     // a place for each place of the parking memory, and at most 65,536.
     pub fn new(
+        name: u32,
+        slots: &'a mut [Slot<OrderWrapper<F>>],
+        records: &'a mut [WakeRecord],
+        parking: &'a mut [Option<OrderWrapper<F::Output>>],
+    ) -> FuturesOrderedBounded<'a, F>
+        ensures fresh { ordered_of result ≡ made name slots.old records.old parking.old }
+        ensures promises { Promises (step F.Future.acts) (ordered_of result) (λ p. F.Ticketed.bearing p.task) F.Output.Ticketed.bearing elements how_many }
+        ensures wakers { WakerLaws (step F.Future.acts) (ordered_of result) queued how_many }
+        ensures deque { DequeLaw (step F.Future.acts) (ordered_of result) F.Ticketed.bearing F.Output.Ticketed.bearing }
+        ensures in_a_run { IndexLaw (step F.Future.acts) (ordered_of result) indices (len_of F.Future.acts) (λ s. s.incoming) (λ s. s.outgoing) }
+    {
+        FuturesOrderedBounded::empty(name, slots, records, parking)
+    }
+
+    fn empty(
         name: u32,
         slots: &'a mut [Slot<OrderWrapper<F>>],
         records: &'a mut [WakeRecord],
@@ -82,6 +101,13 @@ where
         ensures { result ≡ (step F.Future.acts (ordered_of self.now) (ask how_many)).1 }
     {
         self.queue.len()
+    }
+
+    // How many tasks it can hold.
+    pub fn capacity(&self) -> usize
+        ensures { result ≡ (step F.Future.acts (ordered_of self.now) (ask how_many_can_be)).1 }
+    {
+        self.queue.tasks().capacity()
     }
 
     // Hands out the token of an occupied slot.
@@ -129,5 +155,29 @@ where
         ensures { result ≡ (step F.Future.acts (ordered_of self.now) MayEnd).1 }
     {
         self.queue.may_end()
+    }
+
+    // Gives the memory back, or the set itself while tokens are out. Both arms move the set, so no `map_err` will do.
+    pub fn take_apart(
+        self,
+    ) -> Result<OrderedMemory<'a, F, F::Output>, Refused<FuturesOrderedBounded<'a, F>>>
+        ensures { TakenApart (ordered_of self.entry) result }
+    {
+        match self.may_end() {
+            Ok(()) => Ok(self.abandon()),
+            Err(fault) => Err(Refused { fault, input: self }),
+        }
+    }
+
+    // Gives the memory back with tokens out. What is left of them will be refused by any other set.
+    pub fn abandon(self) -> OrderedMemory<'a, F, F::Output>
+        ensures { MemoryOf (ordered_of self.entry) result }
+    {
+        let FuturesOrderedBounded { queue } = self;
+        let Parts { tasks, outputs } = queue.take_apart();
+        OrderedMemory {
+            tasks: tasks.abandon(),
+            parking: outputs.into_memory(),
+        }
     }
 }

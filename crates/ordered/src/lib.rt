@@ -3,6 +3,7 @@
 
 pub mod bounded_tasks;
 pub mod futures_ordered_bounded;
+pub mod ordered_memory;
 pub mod ordered_queue;
 pub mod round;
 pub mod stands;

@@ -23,6 +23,12 @@ pub struct OrderedQueue<S, P> {
     next_outgoing_index: u64,
 }
 
+// What a queue stood over, given back.
+pub struct Parts<S, P> {
+    pub tasks: S,
+    pub outputs: P,
+}
+
 impl<S: TaskSet, P: Parking<Output = S::Output>> OrderedQueue<S, P> {
     // An empty queue over an empty set; the parking is emptied.
     pub fn new(in_progress_queue: S, mut queued_outputs: P) -> OrderedQueue<S, P>
@@ -35,6 +41,29 @@ impl<S: TaskSet, P: Parking<Output = S::Output>> OrderedQueue<S, P> {
             queued_outputs,
             next_incoming_index: 0,
             next_outgoing_index: 0,
+        }
+    }
+
+    // The set of the tasks in progress.
+    pub fn tasks(&self) -> &S
+        ensures { result.now ≡ self.now.in_progress_queue }
+    {
+        &self.in_progress_queue
+    }
+
+    // The set below, and the parking.
+    pub fn take_apart(self) -> Parts<S, P>
+        ensures { (result.tasks ≡ self.in_progress_queue) × (result.outputs ≡ self.queued_outputs) }
+    {
+        let OrderedQueue {
+            in_progress_queue,
+            queued_outputs,
+            next_incoming_index: _,
+            next_outgoing_index: _,
+        } = self;
+        Parts {
+            tasks: in_progress_queue,
+            outputs: queued_outputs,
         }
     }
 
