@@ -4,3 +4,6 @@
 pub mod bounded;
 #[cfg(test)]
 mod bounded_tests;
+pub mod in_order;
+#[cfg(test)]
+mod in_order_tests;
