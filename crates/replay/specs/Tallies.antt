@@ -20,10 +20,10 @@ one_difference t = record { runs = t.runs; calls = t.calls; differences = more t
 abbrev pub one_more_at : ℕ → List ℕ → List ℕ
 one_more_at i ns = slice_set ns i (more (slice_index ns i))
 
--- A run that is skipped, by its kind. Bounded sets are delivered.
+-- A run that is skipped, by its kind. Bounded sets, unordered and ordered, are delivered.
 abbrev pub skipped_more : Kind → List ℕ → List ℕ
 skipped_more Bounded ns = ns
-skipped_more Ordered ns = one_more_at 1 ns
+skipped_more Ordered ns = ns
 skipped_more Growing ns = one_more_at 2 ns
 skipped_more GrowingOrdered ns = one_more_at 3 ns
 skipped_more Merge ns = one_more_at 4 ns

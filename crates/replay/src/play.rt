@@ -3,6 +3,7 @@ ghost use Rattle.std.specs.Prelude.{min, ◌≡◌, IfOk, vec_len};
 
 use crate::input::{Input, Numbered};
 use crate::tally::{Difference, Report, Tally};
+use ordered::futures_ordered_bounded::FuturesOrderedBounded;
 use recordings::call::Call;
 use recordings::line;
 use recordings::line::Line;
@@ -21,13 +22,16 @@ use std::{env, io};
 use tasks::countdown::Countdown;
 use tasks::either::Either;
 use tasks::fault::Refused;
-use tasks::letter::Letter;
+use tasks::letter::{Delivery, Letter};
+use tasks::order_wrapper::OrderWrapper;
 use wakes::wake_record::WakeRecord;
 
-// No set uses more than 65,536 slots or records, so in a longer memory it answers alike.
+// No set uses more than 65,536 slots, records or parking places, so in a longer memory it answers alike.
 const MOST_MEMORY: usize = 65537;
 
 type Task = Either<Countdown, Letter>;
+
+type Output = Either<(u32, u32), Delivery>;
 
 // The make line that ends a run, and what it says. The last run has none.
 type Next = Option<(Numbered, Result<Make, Reason>)>;
@@ -147,11 +151,39 @@ impl<B: BufRead + Drop> Player<'_, B> {
         next
     }
 
+    // A run of a bounded ordered set. Its make line has the key `parking`, as each of its kind.
+    fn ordered(&mut self, line: &Numbered, make: Make) -> io::Result<Next> {
+        let heap = self.report.rt.alloc();
+        let slot = Slot::NextFree(0);
+        let record = WakeRecord::default();
+        let place: Option<OrderWrapper<Output>> = None;
+        let (Ok(mut slots), Ok(mut records), Ok(mut parking)) = (
+            memory(heap, slot, make.slots),
+            memory(heap, record, make.wakes),
+            memory(heap, place, make.parking.unwrap_or(0)),
+        ) else {
+            return self.without_set(line, Reason::NoMemory);
+        };
+        self.report.tally.count_run();
+        let mut set: FuturesOrderedBounded<'_, Task> = FuturesOrderedBounded::new(
+            make.name,
+            slots.as_mut_slice(),
+            records.as_mut_slice(),
+            parking.as_mut_slice(),
+        );
+        let next = self.follow(&mut set);
+        let _ = set
+            .take_apart()
+            .unwrap_or_else(|refused| refused.input.abandon());
+        next
+    }
+
     // The run that a make line begins. Each kind of set and merge is a case of its own.
     fn run(&mut self, line: &Numbered, make: Result<Make, Reason>) -> io::Result<Next> {
         match make {
             Ok(make) => match make.kind {
                 Kind::Bounded => self.bounded(line, make),
+                Kind::Ordered => self.ordered(line, make),
                 other => {
                     self.report.tally.count_skipped(other);
                     self.skip()

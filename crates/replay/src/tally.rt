@@ -54,7 +54,7 @@ impl Tally {
     pub fn count_skipped(&mut self, kind: Kind)
         ensures { self.new ≡ one_skipped kind self.old }
     {
-        if !matches!(kind, Kind::Bounded) {
+        if !matches!(kind, Kind::Bounded | Kind::Ordered) {
             let place = kind as usize;
             self.skipped[place] = self.skipped[place].saturating_add(1);
         }

@@ -1,7 +1,8 @@
 // Recorded calls on a bounded unordered set.
 ghost use Rattle.std.specs.Prelude.{◌≡◌};
 ghost use Rattle.reruns.specs.Answers.{token_of};
-ghost use Rattle.reruns.specs.Bounded.{answer_of, after, bounded_answer, bounded_after};
+ghost use Rattle.reruns.specs.Bounded.{step, bounded_answer, bounded_after};
+ghost use Rattle.reruns.specs.Steps.{answer_of, after};
 ghost use Rattle.runs.specs.Calls.{clone as CloneCall, wake_by_ref as WakeByRefCall};
 ghost use Rattle.sets.specs.BoundedSet.{set_of};
 
@@ -20,8 +21,8 @@ pub type BoundedSet<'a> = FuturesUnorderedBounded<'a, Either<Countdown, Letter>>
 
 // This and the next lend a token. One function that takes the call as a closure leaves open what set the closure leaves.
 fn clone(set: &mut BoundedSet<'_>, raw: RawWaker) -> Answer
-    ensures answer { result ≡ answer_of (set_of set.old) (CloneCall (token_of raw)) }
-    ensures after { set_of set.new ≡ after (set_of set.old) (CloneCall (token_of raw)) }
+    ensures answer { result ≡ answer_of step (set_of set.old) (CloneCall (token_of raw)) }
+    ensures after { set_of set.new ≡ after step (set_of set.old) (CloneCall (token_of raw)) }
 {
     let token = Waker::from_raw(raw);
     let answer = set.clone(&token);
@@ -30,8 +31,8 @@ fn clone(set: &mut BoundedSet<'_>, raw: RawWaker) -> Answer
 }
 
 fn wake_by_ref(set: &mut BoundedSet<'_>, raw: RawWaker) -> Answer
-    ensures answer { result ≡ answer_of (set_of set.old) (WakeByRefCall (token_of raw)) }
-    ensures after { set_of set.new ≡ after (set_of set.old) (WakeByRefCall (token_of raw)) }
+    ensures answer { result ≡ answer_of step (set_of set.old) (WakeByRefCall (token_of raw)) }
+    ensures after { set_of set.new ≡ after step (set_of set.old) (WakeByRefCall (token_of raw)) }
 {
     let token = Waker::from_raw(raw);
     let answer = set.wake_by_ref(&token);

@@ -3,4 +3,5 @@
 
 pub mod answer;
 pub mod bounded;
+pub mod in_order;
 pub mod recorded;
