@@ -9,7 +9,6 @@ use Rattle.ordered.specs.OrderedSet.{OrderedPromises, heap_full, places_of}
 use Rattle.ordered.specs.OrderedSet as ordered
 use Rattle.runs.specs.Calls.{reached}
 use Rattle.runs.specs.Laws.{TicketLaws}
-
 use Rattle.runs.specs.Promises.{Promises}
 use Rattle.runs.specs.Wakers.{WakerLaws}
 use Rattle.sets.proofs.BoundedLaws.{Inv, inside, Once, token_laws, ticket_laws, wake_laws, fresh_held}

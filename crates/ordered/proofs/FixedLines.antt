@@ -1,5 +1,5 @@
 -- What an ordered queue over a bounded set keeps, told by indices alone, and what its calls ask for say the same.
-use Rattle.std.proofs.Common.{◌≡◌, ℕ, zero, suc, ◌+◌, ◌%◌, ◌^◌, ◌<◌, ◌≤◌, Bool, true, List, [], ◌∷◌, map, length, take, drop, count_by, Option, sym, refl, ap, ◌∙◌, subst, arith}
+use Rattle.std.proofs.Common.{◌≡◌, ℕ, zero, suc, ◌+◌, ◌%◌, ◌^◌, ◌≤◌, Bool, true, List, [], ◌∷◌, map, length, take, count_by, Option, sym, refl, ap, ◌∙◌, subst, arith}
 use Rattle.ordered.proofs.BoundedLines.{bare_tickets, bare_flips}
 use Rattle.ordered.proofs.Counts.{one_if, count_cons, count_map}
 use Rattle.ordered.proofs.Queues.{length_ascending}
@@ -8,7 +8,7 @@ use Rattle.ordered.specs.Ordered.{ascending}
 use Rattle.parking.specs.HeldPairs.{held_pairs}
 use Rattle.parking.specs.Places.{entries_in}
 use Rattle.parking.specs.declared.index_heap.IndexHeap.{IndexHeap}
-use Rattle.ordered.specs.Below.{Label, label, FlipLaws}
+use Rattle.ordered.specs.Below.{Label, label}
 use Rattle.ordered.specs.BoundedBelow.{bounded_below, no_ticket, index_labels, FreeChain}
 use Rattle.ordered.specs.FuturesOrdered.{ordered_of}
 use Rattle.ordered.specs.Lined.{Lined, numbered}
@@ -18,7 +18,6 @@ use Rattle.ordered.specs.Queue.{Kept}
 use Rattle.ordered.specs.declared.futures_ordered_bounded.FuturesOrderedBounded.{FuturesOrderedBounded}
 use Rattle.parking.specs.declared.rank.Rank.{Ghosts as Rank}
 use Rattle.runs.proofs.TicketRuns.{count_all}
-use Rattle.runs.specs.Laws.{TicketLaws}
 use Rattle.sets.proofs.BoundedLaws.{fresh_held}
 use Rattle.sets.specs.Bounded.{elements, capacity_of}
 use Rattle.slots.proofs.Chained.{fresh_len}
@@ -27,7 +26,6 @@ use Rattle.slots.specs.declared.slot.Slot.{Slot}
 use Rattle.wakes.specs.declared.wake_record.WakeRecord.{WakeRecord}
 use Rattle.std.proofs.lemmas.List.{length-map, length-drop, length-take-le}
 use Rattle.tasks.specs.Acts.{Acts}
-use Rattle.tasks.specs.Kinds.{wrapped_acts}
 use Rattle.tasks.specs.Orders.{index_raised}
 use Rattle.tasks.specs.declared.future.Future.{Ghosts as Future}
 use Rattle.tasks.specs.declared.ticket.Ticketed.{Ghosts as Ticketed}
@@ -119,8 +117,7 @@ module _ {F O : Type 0} where
   made_line name slots records parking =
       let s : Line F O = made name slots records parking in
       let none : elements s.below ≡ [] = fresh_held (fresh_slots (capacity_of slots records)) (fresh_len (OrderWrapper F) (capacity_of slots records)) in
-      let nil : size s ≡ 0 = let e = ap (λ ws. length ws) none in omega (arith, e) in
-      (
+      let nil : size s ≡ 0 = let e = ap (λ ws. length ws) none in omega (arith, e) in (
         λ test. subst (λ ws. count_by test (map (label no_ticket) ws) + 0 ≡ count_by test (numbered 0 (blank (length ws + 0)))) (sym none) refl,
         omega (arith, nil),
         omega arith,

@@ -10,8 +10,7 @@ pub returns : goal.returns
 returns g c =
     let h = c.args.self.queue.queued_outputs in
     let parts = c.take_apart-tasks.ensures in
-    let is : c.into_memory.result.now ≡ h.heap.memory.now = c.into_memory.ensures ∙ ap (λ o. o.heap.memory.now) parts.1 in
-    (
+    let is : c.into_memory.result.now ≡ h.heap.memory.now = c.into_memory.ensures ∙ ap (λ o. o.heap.memory.now) parts.1 in (
       subst (λ t. MemoryOf (set_of t) c.abandon.result) parts.0 c.abandon.ensures.memory,
       ap (drop h.heap.places) is,
       ap length is ∙ long_memory h,
