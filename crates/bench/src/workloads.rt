@@ -9,7 +9,7 @@ use wakes::wake_record::WakeRecord;
 use wakes::waker::{RawWaker, Waker};
 
 // Runs a workload on a set of that capacity, in memory that is made for it and freed again. (Replay, the desk and the tests make
-// theirs alike, and differ in what they do where there is no memory, and with the fault at the end.)
+// theirs alike: where there is no memory, each goes on in another way, and the desk alone tells the fault at the end.)
 pub(crate) fn on_a_set<F: Future + Copy, R, W: FnOnce(&mut FuturesUnorderedBounded<'_, F>) -> R>(
     heap: Global,
     capacity: u32,

@@ -116,7 +116,7 @@ fn spend(
     set.drop(Waker::from_raw(token)).map_err(told)
 }
 
-// Runs on a set of the name 1 in that memory, which the test lends, and takes it apart.
+// Runs on a set of the name 1 in that memory, which the test lends and nobody allocates, and takes it apart.
 fn on_a_set<R: FnOnce(&mut FuturesUnorderedBounded<'_, Task>)>(
     slots: &mut [Slot<Task>],
     records: &mut [WakeRecord],

@@ -42,7 +42,8 @@ struct Book {
     unanswered: u64,
 }
 
-// The desk: the set of the orders, and its book. The set has to be taken apart at the end.
+// The desk: its handle, the set of the orders, and its book. The set has to be taken apart at the end, and has a lifetime of its
+// own: under one with the handle the checker does not cover it.
 struct Desk<'r, 'a> {
     rt: &'r HostRuntime,
     set: Orders<'a>,
@@ -332,7 +333,8 @@ fn opened(rt: &HostRuntime, lines: &[String]) -> io::Result<Opening> {
     }
 }
 
-// Reads the script, and runs its day on one set. Where printing failed, tokens can be out at the end.
+// Reads the script, and runs its day on one set. Where printing failed, tokens can be out at the end, and the desk tells so; a
+// function that takes its set and gives nothing back is not covered.
 pub fn run(rt: &HostRuntime) -> io::Result<()> {
     let heap = rt.alloc();
     let lines = read(rt)?;

@@ -126,8 +126,8 @@ impl<B: BufRead + Drop> Player<'_, B> {
         self.follow(&mut NoSet)
     }
 
-    // A run of a bounded unordered set. The desk, the benchmark and the tests make theirs alike, and differ in what they do where
-    // there is no memory, and with the fault at the end.
+    // A run of a bounded unordered set. The desk, the benchmark and the tests make theirs alike, in memory of their own: where
+    // there is none, each goes on in another way, and the desk alone tells the fault at the end.
     fn bounded(&mut self, line: &Numbered, make: Make) -> io::Result<Next> {
         let heap = self.report.rt.alloc();
         let slot = Slot::NextFree(0);

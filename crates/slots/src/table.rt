@@ -30,7 +30,7 @@ pub fn insert_in<F: Copy>(slots: &mut [Slot<F>], key: usize, task: F) -> usize
     next
 }
 
-// The number that a vacant slot holds; by the rules 0 where there is none.
+// The number that a vacant slot holds; by its definition 0 where there is none.
 fn next_in<F: Copy>(slots: &[Slot<F>], key: usize) -> usize
     ensures { result ≡ next_link (slice_get slots.now key) }
 {

@@ -25,6 +25,7 @@ impl<A: Ticketed, B: Ticketed> Ticketed for Either<A, B> {
     }
 }
 
+// The closures in `poll` name their variants: a variant as a function is not covered there.
 impl<F: Future, G: Future> Future for Either<F, G> {
     type Output = Either<F::Output, G::Output>;
 

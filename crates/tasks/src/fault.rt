@@ -26,7 +26,7 @@ pub enum Fault {
 }
 
 impl Fault {
-    // The numbers of faults, layers and places belong to the rules: recordings and foreign code know faults by them.
+    // The numbers of faults, layers and places belong to the rules: recordings know faults by them.
     pub fn number(self) -> u32
         ensures { result ≡ number_of self }
     {

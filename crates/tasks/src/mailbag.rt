@@ -7,7 +7,7 @@ use crate::post::word_at;
 use crate::stream::Stream;
 use crate::ticket::Ticketed;
 
-// The word that ends a Mailbag, by the rules of the post.
+// The word that ends a Mailbag, by its rule.
 const END: u64 = u64::MAX;
 
 // A stream of the words of the post from its place on. It never wakes itself.
