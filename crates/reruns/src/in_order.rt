@@ -19,7 +19,8 @@ use wakes::waker::{RawWaker, Waker};
 // A bounded ordered set that holds countdowns and letters side by side.
 pub type OrderedSet<'a> = FuturesOrderedBounded<'a, Either<Countdown, Letter>>;
 
-// This and the next lend a token, as those of the unordered set do.
+// This and the next lend a token, as those of the unordered set do. An interface for both kinds of set would be longer than
+// what it saves: each kind would have to pass its token calls on.
 fn clone(set: &mut OrderedSet<'_>, raw: RawWaker) -> Answer
     ensures answer { result ≡ answer_of step (ordered_of set.old) (CloneCall (token_of raw)) }
     ensures after { ordered_of set.new ≡ after step (ordered_of set.old) (CloneCall (token_of raw)) }
