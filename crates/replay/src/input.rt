@@ -1,4 +1,5 @@
 // The recording, a line at a time.
+ghost use Rattle.std.specs.Prelude.{◌≡◌};
 ghost use Rattle.std.specs.Io.Iter.{lines_left};
 ghost use Rattle.std.specs.Iterator.{at_most};
 
@@ -22,7 +23,9 @@ pub struct Input<B> {
 }
 
 impl<B: BufRead + Drop> Input<B> {
-    pub fn new(heap: Global, lines: Lines<B>) -> Input<B> {
+    pub fn new(heap: Global, lines: Lines<B>) -> Input<B>
+        ensures { (result.lines ≡ lines) × (result.read ≡ 0) }
+    {
         Input {
             lines,
             read: 0,
