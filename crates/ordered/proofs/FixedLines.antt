@@ -16,7 +16,6 @@ use Rattle.ordered.specs.LinedQueue.{blank, size, Even, Ends, Wraps, Placed}
 use Rattle.ordered.specs.OrderedSet.{Line, made}
 use Rattle.ordered.specs.Queue.{Kept}
 use Rattle.ordered.specs.declared.futures_ordered_bounded.FuturesOrderedBounded.{FuturesOrderedBounded}
-use Rattle.parking.specs.declared.rank.Rank.{Ghosts as Rank}
 use Rattle.runs.proofs.TicketRuns.{count_all}
 use Rattle.sets.proofs.BoundedLaws.{fresh_held}
 use Rattle.sets.specs.Bounded.{elements, capacity_of}
@@ -104,8 +103,8 @@ module _ {F O : Type 0} (acts : Acts F O) where
       }
 
 -- what a set keeps is what the calls of its queue ask for
-module _ {F O : Type 0} {future : Future F O} {task : Ticketed F} {output : Ticketed O} {rank : Rank (OrderWrapper O)} (acts : Acts F O) where
-  pub sound_of : (s : FuturesOrderedBounded F O future task output rank) → Line_kept acts (ordered_of s)
+module _ {F O : Type 0} {future : Future F O} {task : Ticketed F} {output : Ticketed O} (acts : Acts F O) where
+  pub sound_of : (s : FuturesOrderedBounded F O future task output) → Line_kept acts (ordered_of s)
   sound_of s = kept_of acts (ordered_of s) s.queue.in_progress_queue.group.tasks.free_chained s.even s.ends s.placed s.wraps s.queue.queued_outputs.heap.cut
 
 -- a fresh line
@@ -128,7 +127,7 @@ module _ {F O : Type 0} where
   fresh_line s name slots records parking is = subst Lines (sym is) (made_line name slots records parking)
 
 -- the memory of a heap, where its places end and what they hold
-module _ {O : Type 0} {rank : Rank (OrderWrapper O)} (h : IndexHeap O rank) where
+module _ {O : Type 0} (h : IndexHeap O) where
   pub long_memory : length h.heap.memory.now ≡ (held_pairs h).places + length (held_pairs h).beyond
   long_memory = omega (arith, h.heap.within, length-drop h.heap.places h.heap.memory.now)
 

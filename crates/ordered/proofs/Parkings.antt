@@ -4,7 +4,7 @@ use Rattle.ordered.proofs.Counts.{one_if, count_cons, count_map, count_le}
 use Rattle.ordered.specs.Ordered.{parked_with, ascending, bearing_index, without_index}
 use Rattle.std.proofs.ByRecursion.{All-weaker, All-map, all_shuffled}
 use Rattle.std.proofs.lemmas.List.Sorted.{IsPermutation-sym, sum_by-IsPermutation}
-use Rattle.std.proofs.lemmas.Bool.{cond_both, and_left, le-ltb, ltb-true, ltb-false, eqb-true, eq-eqb, cond-true, cond-false}
+use Rattle.std.proofs.lemmas.Bool.{cond_both, and_left, le-ltb, ltb-true, ltb-false, eqb-true, eq-eqb, ne_eqb, cond-true, cond-false}
 use Rattle.std.specs.List.Sorted.{IsPermutation}
 use Rattle.std.specs.List.{AllByRecursion as All}
 use Rattle.tasks.specs.Orders.{index_flipped, wrapper_flipped}
@@ -227,3 +227,18 @@ module _ {O : Type 0} where
 
   pub ascending_least : (w : OrderWrapper O) (ws : List (OrderWrapper O)) → All (λ v. w.index ≤ v.index) ws → ascending (w ∷ ws) ≡ w ∷ ascending ws
   ascending_least w ws a = first_placed w (ascending ws) (all_ascending (λ v. w.index ≤ v.index) ws a)
+
+  none_bears : (i : ℕ) (ws : List (OrderWrapper O)) → All (λ v. i < v.index) ws → bearing_index i ws ≡ None
+  none_bears i [] a = refl
+  none_bears i (w ∷ ws) a =
+      cond-false (eqb w.index i) (Some w) (bearing_index i ws) (ne_eqb w.index i (λ e. omega (arith, e, a.0))) ∙ none_bears i ws a.1
+
+  -- if none is below an index, only the first can bear it
+  pub first_bears : (i : ℕ) (w : OrderWrapper O) (ws : List (OrderWrapper O)) → Rising (w ∷ ws) → i ≤ w.index
+      → bearing_index i (w ∷ ws) ≡ cond (eqb w.index i) (Some w) None
+  first_bears i w ws r low =
+      ap (λ o. cond (eqb w.index i) (Some w) o) (none_bears i ws (All-weaker (λ v. w.index < v.index) (λ v. i < v.index) (λ v h. omega (arith, h, low)) ws r.0))
+
+  -- one more
+  pub ascending_cons : (w : OrderWrapper O) (ws : List (OrderWrapper O)) → ascending (w ∷ ws) ≡ parked_with w (ascending ws)
+  ascending_cons w ws = refl

@@ -8,14 +8,13 @@ use Rattle.ordered.specs.OrderedSet.{Line}
 use Rattle.ordered.specs.declared.ordered_queue.OrderedQueue.{OrderedQueue}
 use Rattle.parking.specs.HeldPairs.{held_pairs}
 use Rattle.parking.specs.declared.index_heap.IndexHeap.{IndexHeap}
-use Rattle.parking.specs.declared.rank.Rank.{Ghosts}
 use Rattle.sets.specs.Bounded.{elements}
 use Rattle.sets.specs.BoundedSet.{set_of}
 use Rattle.sets.specs.declared.futures_unordered_bounded.FuturesUnorderedBounded.{FuturesUnorderedBounded}
 use Rattle.tasks.specs.declared.order_wrapper.OrderWrapper.{OrderWrapper}
 
-module _ {F O : Type 0} {rank : Ghosts (OrderWrapper O)} where
-  abbrev pub line_in : OrderedQueue (FuturesUnorderedBounded (OrderWrapper F)) (IndexHeap O rank) → Line F O
+module _ {F O : Type 0} where
+  abbrev pub line_in : OrderedQueue (FuturesUnorderedBounded (OrderWrapper F)) (IndexHeap O) → Line F O
   line_in q = record {
     below = set_of q.in_progress_queue;
     parked = ascending (held_pairs q.queued_outputs).bag;

@@ -3,7 +3,6 @@ ghost use Rattle.ordered.specs.LinedQueue.{line_in, Even, Ends, Wraps, Placed};
 use crate::ordered_memory::OrderedMemory;
 use crate::ordered_queue::{OrderedQueue, Parts};
 use parking::index_heap::IndexHeap;
-use parking::rank::Rank;
 use sets::futures_unordered_bounded::FuturesUnorderedBounded;
 use slots::slot::Slot;
 use tasks::fault::{Fault, Refused};
@@ -15,10 +14,7 @@ use wakes::waker::Waker;
 
 // A set of futures whose outputs are yielded in its order, in memory of the caller's: one slot and one wake record for each
 // task, and a place of parking for each element. What it holds is one run of indices.
-pub struct FuturesOrderedBounded<'a, F: Future>
-where
-    OrderWrapper<F::Output>: Rank,
-{
+pub struct FuturesOrderedBounded<'a, F: Future> {
     queue: OrderedQueue<FuturesUnorderedBounded<'a, OrderWrapper<F>>, IndexHeap<'a, F::Output>>,
     ghost even: { Even (line_in queue) },
     ghost ends: { Ends (line_in queue) },

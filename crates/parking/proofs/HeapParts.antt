@@ -3,14 +3,18 @@ use Rattle.std.proofs.Common.{◌≡◌, ℕ, ◌+◌, ◌-◌, ◌/◌, ◌<◌
 use Rattle.parking.proofs.Holding.{AllHold, hold_all, hold_push, hold_shuffled, hold_taken, length_held, entries_append, entries_few}
 use Rattle.parking.proofs.Ranks.{rank_taken}
 use Rattle.parking.specs.Heaps.{rank_at, InOrder, Heaped}
-use Rattle.parking.specs.Held.{used}
+use Rattle.parking.specs.Held.{used, Ranked}
 use Rattle.parking.specs.Places.{place_rank, entries_in, Filled}
-use Rattle.parking.specs.declared.rank.Rank.{Ghosts}
 use Rattle.parking.specs.declared.rank_heap.RankHeap.{RankHeap}
 use Rattle.std.proofs.lemmas.List.{take_all, take-take, take-append-le, take_more_set, length-set, length-take-le, length-append, length-drop, map-append, append_cancel_right}
 use Rattle.std.proofs.lemmas.List.Sorted.{IsPermutation-trans, IsPermutation-to_front, IsPermutation-sym, length_permutation}
 use Rattle.std.proofs.lemmas.Slice.{drop-append-drop, overwrites}
 use Rattle.std.specs.List.Sorted.{IsPermutation}
+use Rattle.std.specs.List.{between}
+
+-- the first n places
+pub front_is : {X : Type 0} (xs : List X) (n : ℕ) → between 0 n xs ≡ take n xs
+front_is xs n = let z : n - 0 ≡ n = omega arith in ap (λ m. take m xs) z
 
 -- a place gave an entry, which is out of the bag then
 pub record Gave {E : Type 0} (bag : List E) (r : Option E) (after : List E) : Type 0 where
@@ -55,19 +59,19 @@ module _ {E : Type 0} where
   filled_fewer xs k n le filled =
       length_held (take k xs) (subst (λ l. AllHold l) (take-take k n xs le) (hold_taken k (take n xs) (hold_all (take n xs) filled)))
 
-  module _ {rank : Ghosts E} (h : RankHeap E rank) where
+  module _ (h : RankHeap E) where
     hold : AllHold (used h)
     hold = hold_all (used h) h.holding
 
     -- before an entry is put last
-    pub order_before : h.count < h.places → InOrder (rank_at (place_rank rank.rank) (take (h.count + 1) h.memory.now)) (length (take (h.count + 1) h.memory.now) - 1)
-    order_before room k lt =
+    pub order_before : (rank : E → ℕ) → Ranked rank h → h.count < h.places → InOrder (rank_at (place_rank rank) (take (h.count + 1) h.memory.now)) (length (take (h.count + 1) h.memory.now) - 1)
+    order_before rank order room k lt =
         let long = length-take-le (h.count + 1) h.memory.now (omega arith) in
         let short = length-take-le h.count h.memory.now (omega arith) in
-        let r = place_rank rank.rank in
+        let r = place_rank rank in
         omega (
           arith,
-          h.in_order k (omega (arith, long, short)),
+          order k (omega (arith, long, short)),
           rank_taken r h.memory.now (h.count + 1) (k / 2) (omega (arith, long)),
           rank_taken r h.memory.now (h.count + 1) (k + 1) (omega (arith, long)),
           rank_taken r h.memory.now h.count (k / 2) (omega (arith, long)),

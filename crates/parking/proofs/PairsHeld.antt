@@ -1,19 +1,20 @@
 -- Pairs in a heap: the one with an index is taken out, and all are flipped.
-use Rattle.std.proofs.Common.{◌≡◌, ℕ, suc, ◌<◌, Bool, false, cond, eqb, List, [], ◌∷◌, map, length, Some, None, count_by, Option, sym, refl, ap, ◌∙◌, subst, arith}
-use Rattle.parking.proofs.HeapParts.{Part, part}
+use Rattle.std.proofs.Common.{◌≡◌, ℕ, suc, ◌+◌, ◌/◌, ◌<◌, ◌≤◌, Bool, false, cond, eqb, List, [], ◌∷◌, map, length, Some, None, count_by, Option, sym, refl, ap, ◌∙◌, subst, arith}
+use Rattle.parking.proofs.HeapParts.{front_is, Part, part}
 use Rattle.parking.proofs.Holding.{hold_all, hold_shuffled, hold_from, length_held}
+use Rattle.parking.proofs.Ranks.{rank_taken}
 use Rattle.parking.specs.Bags.{bears_index}
-use Rattle.parking.specs.Heaps.{rank_at}
+use Rattle.parking.specs.Heaps.{rank_at, InOrder, Heaped}
 use Rattle.parking.specs.Held.{used}
 use Rattle.parking.specs.Places.{place_rank, index_of, entries_in, Filled, FoundAt}
-use Rattle.parking.specs.declared.rank.Rank.{Ghosts}
 use Rattle.parking.specs.declared.rank_heap.RankHeap.{RankHeap}
+use Rattle.std.proofs.lemmas.List.Edits.{length-between}
 use Rattle.std.proofs.lemmas.List.{get_or-map, length-map, length-take-le}
 use Rattle.std.proofs.lemmas.List.Sorted.{length_permutation}
 use Rattle.std.proofs.lemmas.List.Sums.{sum_by-cons}
 use Rattle.std.proofs.lemmas.Bool.{ne_eqb}
 use Rattle.std.proofs.lemmas.Option.{slice_get_within, get_or_from_slice_get}
-use Rattle.std.specs.List.{AllWithin, HoldsAt, slice_get}
+use Rattle.std.specs.List.{AllWithin, HoldsAt, slice_get, between}
 use Rattle.std.specs.List.Sorted.{IsPermutation}
 use Rattle.std.specs.Option.{MatchOption}
 use Rattle.tasks.specs.Orders.{wrapper_flipped, option_flipped}
@@ -43,17 +44,30 @@ module _ {O : Type 0} where
       let z : ◌≡◌ {A = ℕ} (cond (bears_index i w) 1 0) 0 = ap (λ (b : Bool). cond b 1 0) ne in
       omega (arith, s, z, rest)
 
+  -- a rank in the used places is the rank in the memory
+  rank_used : (xs : List (Option (OrderWrapper O))) (n k : ℕ) → k < n → rank_at (place_rank index_of) (between 0 n xs) k ≡ rank_at (place_rank index_of) xs k
+  rank_used xs n k lt = ap (λ l. rank_at (place_rank index_of) l k) (front_is xs n) ∙ rank_taken (place_rank index_of) xs n k lt
+
+  pub order_in_memory : (xs : List (Option (OrderWrapper O))) (n : ℕ) → n ≤ length xs → Heaped (place_rank index_of) (between 0 n xs) → InOrder (rank_at (place_rank index_of) xs) n
+  order_in_memory xs n within order k lt =
+      omega (arith, order k (omega (arith, length-between xs 0 n within)), rank_used xs n (k / 2) (omega arith), rank_used xs n (k + 1) lt)
+
+  entries_flipped : (ps : List (Option (OrderWrapper O))) → entries_in (map (option_flipped wrapper_flipped) ps) ≡ map wrapper_flipped (entries_in ps)
+  entries_flipped [] = refl
+  entries_flipped (None ∷ ps) = entries_flipped ps
+  entries_flipped (Some w ∷ ps) = ap (λ l. wrapper_flipped w ∷ l) (entries_flipped ps)
+
   held_flipped : (es : List (OrderWrapper O)) → map (option_flipped wrapper_flipped) (map (λ e. Some e) es) ≡ map (λ e. Some e) (map wrapper_flipped es)
   held_flipped [] = refl
   held_flipped (e ∷ es) = ap (λ l. Some (wrapper_flipped e) ∷ l) (held_flipped es)
 
   -- the memory after its used places were flipped and became ys
-  pub record FlippedIn {rank : Ghosts (OrderWrapper O)} (h : RankHeap (OrderWrapper O) rank) (ys : List (Option (OrderWrapper O))) : Type 0 where
+  pub record FlippedIn (h : RankHeap (OrderWrapper O)) (ys : List (Option (OrderWrapper O))) : Type 0 where
     pub part : Part h.memory.now ys h.count h.places
     pub filled : Filled ys
     pub bag : IsPermutation (map wrapper_flipped (entries_in (used h))) (entries_in ys)
 
-  pub flipped_in : {rank : Ghosts (OrderWrapper O)} (h : RankHeap (OrderWrapper O) rank) (ys : List (Option (OrderWrapper O))) → IsPermutation (map (option_flipped wrapper_flipped) (used h)) ys → FlippedIn h ys
+  pub flipped_in : (h : RankHeap (OrderWrapper O)) (ys : List (Option (OrderWrapper O))) → IsPermutation (map (option_flipped wrapper_flipped) (used h)) ys → FlippedIn h ys
   flipped_in h ys same =
       let was : List (Option (OrderWrapper O)) = used h in
       let ylong : length ys ≡ h.count = length_permutation (map (option_flipped wrapper_flipped) was) ys same ∙ length-map was (option_flipped wrapper_flipped) ∙ length-take-le h.count h.memory.now (omega (arith, h.within, h.few)) in

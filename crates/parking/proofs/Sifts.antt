@@ -46,6 +46,22 @@ module _ (r q : ℕ → ℕ) (n i p : ℕ) (pos : 0 < i) (parent : (i - 1) / 2 �
     λ k lt e po. below_up k lt e po (cases_eq (k + 1) i),
   )
 
+-- it stays where it does not rank below its parent
+pub risen : (r : ℕ → ℕ) (n i : ℕ) → ButAbove r n i → (0 < i → r ((i - 1) / 2) ≤ r i) → InOrder r n
+risen r n i was stop k lt =
+    let at : EitherWay (k + 1) i = cases_eq (k + 1) i in
+    elim at [
+      | inl e ↦
+          let h : (i - 1) / 2 ≡ k / 2 = omega arith in
+          let s : r ((i - 1) / 2) ≤ r i = stop (omega arith) in
+          omega (arith, s, ap r h, ap r e)
+      | inr d ↦ was.0 k lt d
+    ]
+
+-- a new last place
+pub at_end : (r : ℕ → ℕ) (i : ℕ) → InOrder r i → ButAbove r (i + 1) i
+at_end r i order = (λ k lt ne. order k (omega arith), λ k lt e po. absurd (omega arith))
+
 -- place i goes down to its least child c
 module _ (r q : ℕ → ℕ) (n i c : ℕ) (child : LeastChild r n i c) (swapped : Swapped r q i c) (was : ButBelow r n i) (down : r c < r i) where
   above_down : (k : ℕ) → k + 1 < n → (k / 2 ≡ c → ⊥) → EitherWay (k / 2) i → EitherWay (k + 1) c → EitherWay (k + 1) i → q (k / 2) ≤ q (k + 1)
@@ -77,6 +93,12 @@ module _ (r q : ℕ → ℕ) (n i c : ℕ) (child : LeastChild r n i c) (swapped
     λ k lt ne. above_down k lt ne (cases_eq (k / 2) i) (cases_eq (k + 1) c) (cases_eq (k + 1) i),
     λ k lt e po. below_down k lt e po,
   )
+
+-- it stays where none of its children ranks below it
+pub sunk : (r : ℕ → ℕ) (n i : ℕ) → ButBelow r n i → ((k : ℕ) → k + 1 < n → k / 2 ≡ i → r i ≤ r (k + 1)) → InOrder r n
+sunk r n i was stop k lt =
+    let at : EitherWay (k / 2) i = cases_eq (k / 2) i in
+    elim at [ inl e ↦ omega (arith, stop k lt e, ap r e) | inr d ↦ was.0 k lt d ]
 
 -- the first place ranks least
 least_by : (r : ℕ → ℕ) (n : ℕ) → InOrder r n → (m k : ℕ) → k < m → k < n → r 0 ≤ r k

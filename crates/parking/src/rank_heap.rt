@@ -12,9 +12,10 @@ use tasks::order_wrapper::OrderWrapper;
 const MOST_PLACES: usize = 65536;
 
 // A heap of entries in the first places of the caller's memory; the entry that ranks least is in front. Its places lie in
-// the memory and are at most 65,536, no more are used than there are, and those used hold an entry each and are in order.
+// the memory and are at most 65,536, no more are used than there are, and those used hold an entry each. That they are in
+// order is a fact of what holds a heap: as one of this type it would ask for a bound wherever the type is named.
 // Nothing is allocated, so the numbers of places and of entries stand beside the memory.
-pub struct RankHeap<'a, E: Rank> {
+pub struct RankHeap<'a, E> {
     memory: &'a mut [Option<E>],
     places: usize,
     count: usize,
@@ -22,7 +23,6 @@ pub struct RankHeap<'a, E: Rank> {
     ghost cut: { places ≤ 65536 },
     ghost few: { count ≤ places },
     ghost holding: { Filled (take count memory.now) },
-    ghost in_order: { Heaped (place_rank E.Rank.rank) (take count memory.now) },
 }
 
 // Puts an entry into the last place; the others are in order.
@@ -38,11 +38,12 @@ fn put_last<E: Rank + Copy>(places: &mut [Option<E>], entry: E)
 
 impl<'a, E: Rank + Copy> RankHeap<'a, E> {
     ghost use Rattle.std.specs.Prelude.{[], ◌∷◌, min, drop};
-    ghost use Rattle.parking.specs.Held.{held, used, with_bag};
+    ghost use Rattle.parking.specs.Held.{held, used, with_bag, Ranked};
 
     // An empty heap in that memory, whatever it holds.
     pub fn new(memory: &'a mut [Option<E>]) -> RankHeap<'a, E>
         ensures fresh { held result ≡ record { bag = []; places = min (length memory.old) 65536; beyond = drop (min (length memory.old) 65536) memory.old } }
+        ensures order { Ranked E.Rank.rank result }
     {
         let places = memory.len().min(MOST_PLACES);
         RankHeap {
@@ -55,6 +56,7 @@ impl<'a, E: Rank + Copy> RankHeap<'a, E> {
     // Takes everything out.
     pub fn clear(&mut self)
         ensures after { held self.new ≡ with_bag (held self.old) [] }
+        ensures order { Ranked E.Rank.rank self.new }
     {
         self.count = 0;
     }
@@ -76,9 +78,10 @@ impl<'a, E: Rank + Copy> RankHeap<'a, E> {
 
     // Puts an entry in.
     pub fn put(&mut self, entry: E)
-        requires { self.old.count < self.old.places }
+        requires { (Ranked E.Rank.rank self.old) × (self.old.count < self.old.places) }
         ensures bag { IsPermutation (entry ∷ (held self.old).bag) (held self.new).bag }
         ensures rest { held self.new ≡ with_bag (held self.old) (held self.new).bag }
+        ensures order { Ranked E.Rank.rank self.new }
     {
         put_last(&mut self.memory[..self.count + 1], entry);
         self.count += 1;
@@ -86,10 +89,11 @@ impl<'a, E: Rank + Copy> RankHeap<'a, E> {
 
     // Takes out the entry at a place.
     pub fn take_at(&mut self, at: usize) -> E
-        requires { at < self.old.count }
+        requires { (Ranked E.Rank.rank self.old) × (at < self.old.count) }
         ensures bag { IsPermutation (held self.old).bag (result ∷ (held self.new).bag) }
         ensures rank { place_rank E.Rank.rank (Some result) ≡ rank_at (place_rank E.Rank.rank) (used self.old) at }
         ensures rest { held self.new ≡ with_bag (held self.old) (held self.new).bag }
+        ensures order { Ranked E.Rank.rank self.new }
     {
         let end = self.count;
         self.count = end - 1;
@@ -112,12 +116,13 @@ impl<'a, E: Rank + Copy> RankHeap<'a, E> {
 impl<'a, O: Copy> RankHeap<'a, OrderWrapper<O>> {
     ghost use Rattle.std.specs.Prelude.{map};
     ghost use Rattle.parking.specs.Bags.{Taken};
-    ghost use Rattle.parking.specs.Held.{held, used, with_bag};
-    ghost use Rattle.parking.specs.Places.{FoundAt};
+    ghost use Rattle.parking.specs.Held.{held, used, with_bag, Ranked};
+    ghost use Rattle.parking.specs.Places.{FoundAt, index_of};
     ghost use Rattle.tasks.specs.Orders.{wrapper_flipped};
 
     // The place of the pair with that index. It stands apart from `take`, in which the checker covers no such read.
     fn find(&self, index: u64) -> Option<usize>
+        requires { Ranked index_of self.now }
         ensures { FoundAt (used self.now) index result }
     {
         find_in(&self.memory[..self.count], index)
@@ -125,8 +130,10 @@ impl<'a, O: Copy> RankHeap<'a, OrderWrapper<O>> {
 
     // Takes out the pair with that index, if it is there, and answers its output.
     pub fn take(&mut self, index: u64) -> Option<O>
+        requires { Ranked index_of self.old }
         ensures taken { Taken index (held self.old).bag result (held self.new).bag }
         ensures rest { held self.new ≡ with_bag (held self.old) (held self.new).bag }
+        ensures order { Ranked index_of self.new }
     {
         let at = self.find(index)?;
         Some(self.take_at(at).data)
@@ -136,6 +143,7 @@ impl<'a, O: Copy> RankHeap<'a, OrderWrapper<O>> {
     pub fn flip(&mut self)
         ensures bag { IsPermutation (map wrapper_flipped (held self.old).bag) (held self.new).bag }
         ensures rest { held self.new ≡ with_bag (held self.old) (held self.new).bag }
+        ensures order { Ranked index_of self.new }
     {
         flip_in(&mut self.memory[..self.count]);
     }

@@ -121,14 +121,15 @@ impl<B: BufRead + Drop> Player<'_, B> {
     }
 
     // Where no set can be made, there is none up to the next make line.
-    fn without_set(&mut self, line: &Numbered, reason: Reason) -> io::Result<Next> {
-        self.report.differs(line, Difference::Unreadable(reason))?;
+    fn without_set(&mut self, line: Numbered, reason: Reason) -> io::Result<Next> {
+        self.report.differs(&line, Difference::Unreadable(reason))?;
+        drop(line);
         self.follow(&mut NoSet)
     }
 
     // A run of a bounded unordered set. The desk, the benchmark and the tests make theirs alike, in memory of their own: where
     // there is none, each goes on in another way, and the desk alone tells the fault at the end.
-    fn bounded(&mut self, line: &Numbered, make: Make) -> io::Result<Next> {
+    fn bounded(&mut self, line: Numbered, make: Make) -> io::Result<Next> {
         let heap = self.report.rt.alloc();
         let slot = Slot::NextFree(0);
         let record = WakeRecord::default();
@@ -138,6 +139,7 @@ impl<B: BufRead + Drop> Player<'_, B> {
         ) else {
             return self.without_set(line, Reason::NoMemory);
         };
+        drop(line);
         self.report.tally.count_run();
         let mut set = FuturesUnorderedBounded::new(
             make.name,
@@ -152,7 +154,7 @@ impl<B: BufRead + Drop> Player<'_, B> {
     }
 
     // A run of a bounded ordered set. Its make line has the key `parking`, as each of its kind.
-    fn ordered(&mut self, line: &Numbered, make: Make) -> io::Result<Next> {
+    fn ordered(&mut self, line: Numbered, make: Make) -> io::Result<Next> {
         let heap = self.report.rt.alloc();
         let slot = Slot::NextFree(0);
         let record = WakeRecord::default();
@@ -164,6 +166,7 @@ impl<B: BufRead + Drop> Player<'_, B> {
         ) else {
             return self.without_set(line, Reason::NoMemory);
         };
+        drop(line);
         self.report.tally.count_run();
         let mut set: FuturesOrderedBounded<'_, Task> = FuturesOrderedBounded::new(
             make.name,
@@ -178,13 +181,15 @@ impl<B: BufRead + Drop> Player<'_, B> {
         next
     }
 
-    // The run that a make line begins. Each kind of set and merge is a case of its own.
-    fn run(&mut self, line: &Numbered, make: Result<Make, Reason>) -> io::Result<Next> {
+    // The run that a make line begins. Each kind of set and merge is a case of its own. The line goes before the run's own lines
+    // are read: it can be long.
+    fn run(&mut self, line: Numbered, make: Result<Make, Reason>) -> io::Result<Next> {
         match make {
             Ok(make) => match make.kind {
                 Kind::Bounded => self.bounded(line, make),
                 Kind::Ordered => self.ordered(line, make),
                 other => {
+                    drop(line);
                     self.report.tally.count_skipped(other);
                     self.skip()
                 }
@@ -210,7 +215,7 @@ fn play<B: BufRead + Drop>(rt: &HostRuntime, lines: Lines<B>) -> io::Result<u64>
         let Some((line, make)) = next else {
             break;
         };
-        next = player.run(&line, make)?;
+        next = player.run(line, make)?;
     }
     player.report.show()?;
     Ok(player.report.tally.differences())

@@ -1,2 +1,3 @@
 pub mod Chained
 pub mod HeldParts
+pub mod SlotReads

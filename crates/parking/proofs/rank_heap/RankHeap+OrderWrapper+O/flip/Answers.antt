@@ -17,7 +17,6 @@ invariant_of-self g c =
       cut = h.cut;
       few = h.few;
       holding = subst (λ l. Filled l) (sym f.part.used) f.filled;
-      in_order = subst (λ l. Heaped (place_rank index_of) l) (sym f.part.used) c.flip_in.ensures.order;
     }
 
 pub returns-clause-bag : goal.returns-clause-bag
@@ -31,3 +30,9 @@ returns-clause-rest g c =
     let h = c.args.self.now in
     let f = flipped_in h c.flip_in.new.places c.flip_in.ensures.same in
     ap (λ (l : List (Option (OrderWrapper g.row.O.Denot))). let k : Held (OrderWrapper g.row.O.Denot) = record { bag = entries_in (take h.count (c.flip_in.new.places ++ drop h.count h.memory.now)); places = h.places; beyond = l } in k) f.part.beyond
+
+pub returns-clause-order : goal.returns-clause-order
+returns-clause-order g c =
+    let h = c.args.self.now in
+    let f = flipped_in h c.flip_in.new.places c.flip_in.ensures.same in
+    subst (λ l. Heaped (place_rank index_of) l) (sym f.part.used) c.flip_in.ensures.order
