@@ -4,8 +4,8 @@ ghost use Rattle.std.specs.List.Sorted.{IsPermutation};
 
 use crate::rank::Rank;
 
-// These work on the parts of a heap's memory, which are in order up to a place, or but for one. That the whole is in order is
-// a fact of `RankHeap`.
+// These work on the parts of a heap's memory, which are in order up to a place, or but for one. `RankHeap` asks
+// for the whole to be in order and leaves it so; it is a fact of `IndexHeap`.
 
 // Whether the entry at one place ranks below the entry at another.
 fn ranks_below<T: Rank + Copy>(entries: &[T], a: usize, b: usize) -> bool
