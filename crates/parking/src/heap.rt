@@ -4,8 +4,8 @@ ghost use Rattle.std.specs.List.Sorted.{IsPermutation};
 
 use crate::rank::Rank;
 
-// These work on the parts of a heap's memory, which are in order up to a place, or but for one. `RankHeap` asks
-// for the whole to be in order and leaves it so; it is a fact of `IndexHeap`.
+// These work on the parts of a heap's memory, which are in order up to a place, or but for one. Where they are not, entries
+// are exchanged and no more is said. That the whole is in order is a fact of `IndexHeap`.
 
 // Whether the entry at one place ranks below the entry at another.
 fn ranks_below<T: Rank + Copy>(entries: &[T], a: usize, b: usize) -> bool
@@ -15,10 +15,11 @@ fn ranks_below<T: Rank + Copy>(entries: &[T], a: usize, b: usize) -> bool
     entries[a].is_below(&entries[b])
 }
 
-// Lets the entry at a place rise until it does not rank below its parent. The entries before it are in order.
+// Lets the entry at a place rise until it does not rank below its parent. If the entries before it are in order, they are
+// with it.
 pub fn sift_up<T: Rank + Copy>(entries: &mut [T], at: usize)
-    requires { (at < length entries.old) × (InOrder (rank_at T.Rank.rank entries.old) at) }
-    ensures order { InOrder (rank_at T.Rank.rank entries.new) (at + 1) }
+    requires { at < length entries.old }
+    ensures order { InOrder (rank_at T.Rank.rank entries.old) at → InOrder (rank_at T.Rank.rank entries.new) (at + 1) }
     ensures same { IsPermutation entries.old entries.new }
 {
     // the place is halved each time, which no iterator does
@@ -45,10 +46,9 @@ fn least_child<T: Rank + Copy>(entries: &[T], i: usize) -> usize
     left
 }
 
-// Lets the first entry sink until none of its children ranks below it. All the others are in order.
+// Lets the first entry sink until none of its children ranks below it. If all the others are in order, all are then.
 pub fn sift_down<T: Rank + Copy>(entries: &mut [T])
-    requires { ButBelow (rank_at T.Rank.rank entries.old) (length entries.old) 0 }
-    ensures order { Heaped T.Rank.rank entries.new }
+    ensures order { ButBelow (rank_at T.Rank.rank entries.old) (length entries.old) 0 → Heaped T.Rank.rank entries.new }
     ensures same { IsPermutation entries.old entries.new }
 {
     // the place is doubled each time, or doubled and raised, which no iterator does
@@ -73,10 +73,10 @@ pub fn put_in_order<T: Rank + Copy>(entries: &mut [T])
     }
 }
 
-// Moves the entry at a place to the end, puts the others in order again, and answers the entry.
+// Moves the entry at a place to the end and answers it. The others are in order again, if all were.
 pub fn move_to_end<T: Rank + Copy>(entries: &mut [T], at: usize) -> T
-    requires { (at < length entries.old) × (Heaped T.Rank.rank entries.old) }
-    ensures order { Heaped T.Rank.rank (take (length entries.old - 1) entries.new) }
+    requires { at < length entries.old }
+    ensures order { Heaped T.Rank.rank entries.old → Heaped T.Rank.rank (take (length entries.old - 1) entries.new) }
     ensures same { IsPermutation entries.old entries.new }
     ensures last { entries.new ≡ take (length entries.old - 1) entries.new ++ result ∷ [] }
     ensures rank { T.Rank.rank result ≡ rank_at T.Rank.rank entries.old at }

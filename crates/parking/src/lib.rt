@@ -7,3 +7,5 @@ pub mod pairs;
 pub mod parking;
 pub mod rank;
 pub mod rank_heap;
+#[cfg(test)]
+mod rank_heap_tests;

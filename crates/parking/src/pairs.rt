@@ -8,6 +8,15 @@ use crate::heap::put_in_order;
 use tasks::flip::flip_each;
 use tasks::order_wrapper::OrderWrapper;
 
+// The place of the pair with that index, in whatever order they are.
+pub fn position_in<O: Copy>(places: &[Option<OrderWrapper<O>>], index: u64) -> Option<usize>
+    ensures { FoundAt places.now index result }
+{
+    places
+        .iter()
+        .position(|place| place.is_some_and(|pair| pair.index == index))
+}
+
 // The place of the pair with that index. They are in order, so it is nowhere if the first has a higher one.
 pub fn find_in<O: Copy>(places: &[Option<OrderWrapper<O>>], index: u64) -> Option<usize>
     requires { Heaped (place_rank index_of) places.now }
@@ -18,9 +27,7 @@ pub fn find_in<O: Copy>(places: &[Option<OrderWrapper<O>>], index: u64) -> Optio
             return None;
         }
     }
-    places
-        .iter()
-        .position(|place| place.is_some_and(|pair| pair.index == index))
+    position_in(places, index)
 }
 
 // Flips the top bit of every index, and puts the pairs in order again.

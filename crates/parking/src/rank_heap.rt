@@ -4,7 +4,7 @@ ghost use Rattle.parking.specs.Places.{place_rank, Filled};
 ghost use Rattle.std.specs.List.Sorted.{IsPermutation};
 
 use crate::heap::{move_to_end, sift_up};
-use crate::pairs::{find_in, flip_in};
+use crate::pairs::{find_in, flip_in, position_in};
 use crate::rank::Rank;
 use tasks::order_wrapper::OrderWrapper;
 
@@ -12,9 +12,9 @@ use tasks::order_wrapper::OrderWrapper;
 const MOST_PLACES: usize = 65536;
 
 // A heap of entries in the first places of the caller's memory; the entry that ranks least is in front. Its places lie in
-// the memory and are at most 65,536, no more are used than there are, and those used hold an entry each. That they are in
-// order is a fact of what holds a heap: as one of this type it would ask for a bound wherever the type is named.
-// Nothing is allocated, so the numbers of places and of entries stand beside the memory.
+// the memory and are at most 65,536, no more are used than there are, and those used hold an entry each. A heap is made in
+// order and each call keeps it so. That it is so is a fact of what holds a heap: as one of this type it would ask for a bound
+// wherever the type is named. Nothing is allocated, so the numbers of places and of entries stand beside the memory.
 pub struct RankHeap<'a, E> {
     memory: &'a mut [Option<E>],
     places: usize,
@@ -25,10 +25,10 @@ pub struct RankHeap<'a, E> {
     ghost holding: { Filled (take count memory.now) },
 }
 
-// Puts an entry into the last place; the others are in order.
+// Puts an entry into the last place. If the others are in order, all are then.
 fn put_last<E: Rank + Copy>(places: &mut [Option<E>], entry: E)
-    requires { (0 < length places.old) × (InOrder (rank_at (place_rank E.Rank.rank) places.old) (length places.old - 1)) }
-    ensures order { Heaped (place_rank E.Rank.rank) places.new }
+    requires { 0 < length places.old }
+    ensures order { InOrder (rank_at (place_rank E.Rank.rank) places.old) (length places.old - 1) → Heaped (place_rank E.Rank.rank) places.new }
     ensures same { IsPermutation (slice_set places.old (length places.old - 1) (Some entry)) places.new }
 {
     let last = places.len() - 1;
@@ -76,24 +76,24 @@ impl<'a, E: Rank + Copy> RankHeap<'a, E> {
         self.places
     }
 
-    // Puts an entry in.
+    // Puts an entry in. A heap in order stays so.
     pub fn put(&mut self, entry: E)
-        requires { (Ranked E.Rank.rank self.old) × (self.old.count < self.old.places) }
+        requires { self.old.count < self.old.places }
         ensures bag { IsPermutation (entry ∷ (held self.old).bag) (held self.new).bag }
         ensures rest { held self.new ≡ with_bag (held self.old) (held self.new).bag }
-        ensures order { Ranked E.Rank.rank self.new }
+        ensures order { Ranked E.Rank.rank self.old → Ranked E.Rank.rank self.new }
     {
         put_last(&mut self.memory[..self.count + 1], entry);
         self.count += 1;
     }
 
-    // Takes out the entry at a place.
+    // Takes out the entry at a place. A heap in order stays so.
     pub fn take_at(&mut self, at: usize) -> E
-        requires { (Ranked E.Rank.rank self.old) × (at < self.old.count) }
+        requires { at < self.old.count }
         ensures bag { IsPermutation (held self.old).bag (result ∷ (held self.new).bag) }
         ensures rank { place_rank E.Rank.rank (Some result) ≡ rank_at (place_rank E.Rank.rank) (used self.old) at }
         ensures rest { held self.new ≡ with_bag (held self.old) (held self.new).bag }
-        ensures order { Ranked E.Rank.rank self.new }
+        ensures order { Ranked E.Rank.rank self.old → Ranked E.Rank.rank self.new }
     {
         let end = self.count;
         self.count = end - 1;
@@ -120,22 +120,41 @@ impl<'a, O: Copy> RankHeap<'a, OrderWrapper<O>> {
     ghost use Rattle.parking.specs.Places.{FoundAt, index_of};
     ghost use Rattle.tasks.specs.Orders.{wrapper_flipped};
 
-    // The place of the pair with that index. It stands apart from `take`, in which the checker covers no such read.
+    // The place of the pair with that index. It stands apart from `take`, in which the checker covers no such read, and so does
+    // the next from `take_ranked`.
     fn find(&self, index: u64) -> Option<usize>
+        ensures { FoundAt (used self.now) index result }
+    {
+        position_in(&self.memory[..self.count], index)
+    }
+
+    // The same in a heap in order: an index below the first is not looked for.
+    fn find_ranked(&self, index: u64) -> Option<usize>
         requires { Ranked index_of self.now }
         ensures { FoundAt (used self.now) index result }
     {
         find_in(&self.memory[..self.count], index)
     }
 
-    // Takes out the pair with that index, if it is there, and answers its output.
+    // Takes out the pair with that index, if it is there, and answers its output. All places are looked through. A heap in
+    // order stays so.
     pub fn take(&mut self, index: u64) -> Option<O>
+        ensures taken { Taken index (held self.old).bag result (held self.new).bag }
+        ensures rest { held self.new ≡ with_bag (held self.old) (held self.new).bag }
+        ensures order { Ranked index_of self.old → Ranked index_of self.new }
+    {
+        let at = self.find(index)?;
+        Some(self.take_at(at).data)
+    }
+
+    // The same from a heap in order: an index below the first is not looked for.
+    pub fn take_ranked(&mut self, index: u64) -> Option<O>
         requires { Ranked index_of self.old }
         ensures taken { Taken index (held self.old).bag result (held self.new).bag }
         ensures rest { held self.new ≡ with_bag (held self.old) (held self.new).bag }
         ensures order { Ranked index_of self.new }
     {
-        let at = self.find(index)?;
+        let at = self.find_ranked(index)?;
         Some(self.take_at(at).data)
     }
 

@@ -68,7 +68,7 @@ impl<'a, O: Copy> Parking for IndexHeap<'a, O> {
     }
 
     fn take(&mut self, index: u64) -> Option<O> {
-        self.heap.take(index)
+        self.heap.take_ranked(index)
     }
 
     fn count(&self) -> usize {

@@ -15,7 +15,8 @@ loop-i-preserved g c =
     let b : d < length c.loop-i.entries = c.least_child-child.ensures.within in
     let down : r d < r i = ltb-true (r d) (r i) (sym c.ranks_below.ensures ∙ c.if-not-ranks_below.false) in
     let n : length c.loop-i.entries ≡ length c.swap.new.self = sym c.swap.ensures.len in (
-      subst (λ m. ButBelow q m d) n
-          (sinks r q (length c.loop-i.entries) i d c.least_child-child.ensures (ranks_swapped g.T.Rank.rank c.loop-i.entries c.swap.new.self i d a b c.swap.ensures.after) c.loop-i.invariant.0 down),
+      λ order.
+          subst (λ m. ButBelow q m d) n
+          (sinks r q (length c.loop-i.entries) i d c.least_child-child.ensures (ranks_swapped g.T.Rank.rank c.loop-i.entries c.swap.new.self i d a b c.swap.ensures.after) (c.loop-i.invariant.0 order) down),
       IsPermutation-trans c.args.entries.now c.loop-i.entries c.swap.new.self c.loop-i.invariant.1 c.swap.ensures.permutation,
     )

@@ -15,6 +15,6 @@ loop-i-preserved g c =
     let b : p < length c.loop-i.entries = omega arith in
     let up : r i < r p = ltb-true (r i) (r p) (sym c.ranks_below.ensures ∙ c.if-not-ranks_below.false) in (
       omega arith,
-      rises r q (c.args.at + 1) i p (omega arith) refl (ranks_swapped g.T.Rank.rank c.loop-i.entries c.swap.new.self i p a b c.swap.ensures.after) c.loop-i.invariant.1 up,
+      λ order. rises r q (c.args.at + 1) i p (omega arith) refl (ranks_swapped g.T.Rank.rank c.loop-i.entries c.swap.new.self i p a b c.swap.ensures.after) (c.loop-i.invariant.1 order) up,
       IsPermutation-trans c.args.entries.now c.loop-i.entries c.swap.new.self c.loop-i.invariant.2 c.swap.ensures.permutation,
     )

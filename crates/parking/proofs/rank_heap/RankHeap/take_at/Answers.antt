@@ -21,7 +21,7 @@ invariant_of-self-2 g c =
     let h = c.args.self.now in
     let xs = h.memory.now in
     let ys = c.move_to_end.new.entries in
-    let t = taken_out h c.move_to_end.result ys (omega (arith, c.requires.1)) c.move_to_end.ensures.same c.move_to_end.ensures.last in
+    let t = taken_out h c.move_to_end.result ys (omega (arith, c.requires)) c.move_to_end.ensures.same c.move_to_end.ensures.last in
     record {
       within = subst (λ n. h.places ≤ n) (sym t.part.long) h.within;
       cut = h.cut;
@@ -32,19 +32,19 @@ invariant_of-self-2 g c =
 pub unwrap-requires : goal.unwrap-requires
 unwrap-requires g c =
     let h = c.args.self.now in
-    let t = taken_out h c.move_to_end.result c.move_to_end.new.entries (omega (arith, c.requires.1)) c.move_to_end.ensures.same c.move_to_end.ensures.last in
+    let t = taken_out h c.move_to_end.result c.move_to_end.new.entries (omega (arith, c.requires)) c.move_to_end.ensures.same c.move_to_end.ensures.last in
     ap is_some t.gave.is
 
 pub returns-clause-bag : goal.returns-clause-bag
 returns-clause-bag g c =
     let h = c.args.self.now in
-    let t = taken_out h c.move_to_end.result c.move_to_end.new.entries (omega (arith, c.requires.1)) c.move_to_end.ensures.same c.move_to_end.ensures.last in
+    let t = taken_out h c.move_to_end.result c.move_to_end.new.entries (omega (arith, c.requires)) c.move_to_end.ensures.same c.move_to_end.ensures.last in
     gave_it (entries_in (used h)) _ c.move_to_end.result c.unwrap.result (subst (λ l. Gave (entries_in (used h)) c.move_to_end.result (entries_in l)) (sym t.front) t.gave) c.unwrap.ensures
 
 pub returns-clause-rest : goal.returns-clause-rest
 returns-clause-rest g c =
     let h = c.args.self.now in
-    let t = taken_out h c.move_to_end.result c.move_to_end.new.entries (omega (arith, c.requires.1)) c.move_to_end.ensures.same c.move_to_end.ensures.last in
+    let t = taken_out h c.move_to_end.result c.move_to_end.new.entries (omega (arith, c.requires)) c.move_to_end.ensures.same c.move_to_end.ensures.last in
     ap (λ (l : List (Option g.row.E.Denot)). let k : Held g.row.E.Denot = record { bag = entries_in (take (h.count - 1) (c.move_to_end.new.entries ++ drop h.count h.memory.now)); places = h.places; beyond = l } in k) t.part.beyond
 
 pub returns-clause-order : goal.returns-clause-order
@@ -52,6 +52,6 @@ returns-clause-order g c =
     let h = c.args.self.now in
     let xs = h.memory.now in
     let ys = c.move_to_end.new.entries in
-    let t = taken_out h c.move_to_end.result ys (omega (arith, c.requires.1)) c.move_to_end.ensures.same c.move_to_end.ensures.last in
+    let t = taken_out h c.move_to_end.result ys (omega (arith, c.requires)) c.move_to_end.ensures.same c.move_to_end.ensures.last in
     let last : length (take h.count xs) - 1 ≡ h.count - 1 = omega (arith, length-take-le h.count xs (omega (arith, h.within, h.few))) in
-    subst (λ l. Heaped (place_rank g.E.Rank.rank) l) (ap (λ n. take n ys) last ∙ sym t.front) c.move_to_end.ensures.order
+    λ order. subst (λ l. Heaped (place_rank g.E.Rank.rank) l) (ap (λ n. take n ys) last ∙ sym t.front) (c.move_to_end.ensures.order order)
