@@ -4,8 +4,9 @@ ghost use Rattle.std.specs.List.Sorted.{IsPermutation};
 
 use crate::rank::Rank;
 
-// These work on the parts of a heap's memory, which are in order up to a place, or but for one. Where they are not, entries
-// are exchanged and no more is said. That the whole is in order is a fact of `IndexHeap`.
+// These work on the parts of a heap's memory, and only exchange entries. What they say of their order is said of parts that
+// were in order up to a place, or but for one; `put_in_order` puts any in order. That the whole is in order is a fact of
+// `IndexHeap` and of `HeapInOrder`.
 
 // Whether the entry at one place ranks below the entry at another.
 fn ranks_below<T: Rank + Copy>(entries: &[T], a: usize, b: usize) -> bool

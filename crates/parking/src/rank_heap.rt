@@ -25,6 +25,12 @@ pub struct RankHeap<'a, E> {
     ghost holding: { Filled (take count memory.now) },
 }
 
+// A heap of which the type tells that it is in order. It asks for the bound; `IndexHeap`, which holds pairs alone, does not.
+pub struct HeapInOrder<'a, E: Rank> {
+    pub heap: RankHeap<'a, E>,
+    ghost in_order: { Heaped (place_rank E.Rank.rank) (take heap.count heap.memory.now) },
+}
+
 // Puts an entry into the last place. If the others are in order, all are then.
 fn put_last<E: Rank + Copy>(places: &mut [Option<E>], entry: E)
     requires { 0 < length places.old }
@@ -120,8 +126,8 @@ impl<'a, O: Copy> RankHeap<'a, OrderWrapper<O>> {
     ghost use Rattle.parking.specs.Places.{FoundAt, index_of};
     ghost use Rattle.tasks.specs.Orders.{wrapper_flipped};
 
-    // The place of the pair with that index. It stands apart from `take`, in which the checker covers no such read, and so does
-    // the next from `take_ranked`.
+    // The place of the pair with that index. This and `find_ranked` are functions of their own, since the checker covers no such
+    // read in `take` and `take_ranked`.
     fn find(&self, index: u64) -> Option<usize>
         ensures { FoundAt (used self.now) index result }
     {
@@ -136,8 +142,8 @@ impl<'a, O: Copy> RankHeap<'a, OrderWrapper<O>> {
         find_in(&self.memory[..self.count], index)
     }
 
-    // Takes out the pair with that index, if it is there, and answers its output. All places are looked through. A heap in
-    // order stays so.
+    // Takes out the pair with that index, if it is there, and answers its output. The used places are looked through.
+    // A heap in order stays so.
     pub fn take(&mut self, index: u64) -> Option<O>
         ensures taken { Taken index (held self.old).bag result (held self.new).bag }
         ensures rest { held self.new ≡ with_bag (held self.old) (held self.new).bag }
