@@ -2,6 +2,7 @@
 #![tactic(auto)]
 
 pub mod heap;
+pub mod heap_in_order;
 pub mod index_heap;
 pub mod pairs;
 pub mod parking;

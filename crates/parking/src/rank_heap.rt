@@ -25,12 +25,6 @@ pub struct RankHeap<'a, E> {
     ghost holding: { Filled (take count memory.now) },
 }
 
-// A heap of which the type tells that it is in order. It asks for the bound; `IndexHeap`, which holds pairs alone, does not.
-pub struct HeapInOrder<'a, E: Rank> {
-    pub heap: RankHeap<'a, E>,
-    ghost in_order: { Heaped (place_rank E.Rank.rank) (take heap.count heap.memory.now) },
-}
-
 // Puts an entry into the last place. If the others are in order, all are then.
 fn put_last<E: Rank + Copy>(places: &mut [Option<E>], entry: E)
     requires { 0 < length places.old }

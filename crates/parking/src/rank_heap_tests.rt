@@ -1,5 +1,6 @@
 // The calls of a heap.
-use crate::rank_heap::{HeapInOrder, RankHeap};
+use crate::heap_in_order::HeapInOrder;
+use crate::rank_heap::RankHeap;
 use tasks::order_wrapper::OrderWrapper;
 
 type Pairs<'a> = HeapInOrder<'a, OrderWrapper<u32>>;
